@@ -1,0 +1,5 @@
+pub mod Refusal
+pub mod Members
+pub mod Forms
+pub mod Lines
+pub mod Replies

@@ -1,0 +1,18 @@
+-- Which lines are requests: a line is one JSON value that is text and has one of the forms.
+use Rattle.std.specs.Prelude.{ℕ, List, if◌then◌else◌, Option, None}
+use Rattle.std.specs.Str.{is_utf8}
+use Rattle.serde_json.specs.Data.{Data}
+use Rattle.serde_json.specs.Read.{read}
+use Rattle.dd_wire.specs.declared.request.Request.{Request}
+use Rattle.dd_wire.specs.Forms.{request_of}
+use Rattle.dd_wire.specs.Refusal.{Tested, ◌>>=◌, or_refuse, bad_json, not_built}
+
+-- the JSON value of a line
+abbrev pub json_of : List ℕ → Option Data
+json_of line = if is_utf8 line then read line else None
+
+-- the request of a line, or the first test that it fails
+unfoldable pub request_in : List ℕ → Tested Request
+request_in line = do
+  value ← or_refuse bad_json (json_of line)
+  or_refuse not_built (request_of value)
