@@ -1,6 +1,7 @@
-ghost use Rattle.std.specs.Prelude.{◌≡◌, ◌∷◌, ◌++◌, [], IfOk, OnErr, OnOk};
+ghost use Rattle.std.specs.Prelude.{◌≡◌, ◌∷◌, ◌++◌, [], IfOk, OnErr, OnOk, take};
 
-use std::alloc::{AllocError, Global};
+use crate::NoMemory;
+use std::alloc::Global;
 use std::marker::Model;
 
 /// A `Vec` that contracts see as the list of its elements, so that equal lists are equal values.
@@ -55,21 +56,36 @@ impl<T> Items<T> {
 
 impl<T: Drop> Items<T> {
     /// One more item, at the end. Without memory for it the list stays as it was.
-    pub fn push(&mut self, item: T) -> Result<(), AllocError>
+    pub fn push(&mut self, item: T) -> Result<(), NoMemory>
         ensures ok { OnOk result (self.new ≡ self.old ++ item ∷ []) }
         ensures err { OnErr result (self.new ≡ self.old) }
     {
         self.list.push(item)?;
         Ok(())
     }
+
+    /// Keeps the first `len` items, and all of them where there are fewer.
+    pub fn truncate(&mut self, len: usize)
+        ensures { self.new ≡ take len self.old }
+    {
+        self.list.truncate(len);
+    }
 }
 
 impl<T: Copy> Items<T> {
     /// A copy of these items.
-    pub fn from_slice(alloc: Global, items: &[T]) -> Result<Items<T>, AllocError>
+    pub fn from_slice(alloc: Global, items: &[T]) -> Result<Items<T>, NoMemory>
         ensures { IfOk result (λ it. it ≡ items.now) }
     {
         let list = Vec::from_slice(alloc, items)?;
         Ok(Items { list })
+    }
+
+    /// Copies of these items, behind the items. Without memory for them the list stays as it was.
+    pub fn extend_from_slice(&mut self, items: &[T]) -> Result<(), NoMemory>
+        ensures ok { OnOk result (self.new ≡ self.old ++ items.now) }
+        ensures err { OnErr result (self.new ≡ self.old) }
+    {
+        self.list.extend_from_slice(items)
     }
 }

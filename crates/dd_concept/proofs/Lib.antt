@@ -1,0 +1,6 @@
+pub mod Induction
+pub mod Folds
+pub mod Bounds
+pub mod NormalForms
+pub mod Results
+pub mod Equations
