@@ -1,2 +1,4 @@
 pub mod Meaning
+pub mod NormalForms
 pub mod Satisfies
+pub mod Union

@@ -1,9 +1,20 @@
 //! Local interpretations: finite domains of any size, the empty one among them, and what holds at their elements.
 //!
-//! `interp` has the type. What a concept means in an interpretation is `specs/Meaning.antt`.
+//! `interp` has the type, `shape` whether it is one, `meaning` decides what a concept means at an element, `union` makes the
+//! disjoint union, and `laws` has the law of the negation normal form. What a concept means is `specs/Meaning.antt`.
 #![tactic(auto)]
 
 mod interp;
+mod laws;
+mod meaning;
+mod shape;
+#[cfg(test)]
+mod tests;
+mod union;
 
 pub use dd_concept::NoMemory;
 pub use interp::Interp;
+pub use laws::normal_keeps_meaning;
+pub use meaning::holds;
+pub use shape::is_shaped;
+pub use union::append;
