@@ -1,2 +1,9 @@
+pub mod Automaton
+pub mod Build
+pub mod Grammar
+pub mod Laws
 pub mod Names
+pub mod Parts
+pub mod Reads
 pub mod Symbols
+pub mod Text

@@ -1,0 +1,14 @@
+pub mod AxiomReads
+pub mod Building
+pub mod Contexts
+pub mod Inverse
+pub mod Numbering
+pub mod PartReads
+pub mod Reading
+pub mod Restoring
+pub mod RoundTrip
+pub mod Seen
+pub mod Steps
+pub mod Unique
+pub mod Verdicts
+pub mod WithinLimits
