@@ -1,5 +1,7 @@
 pub mod Refusal
 pub mod Members
+pub mod Gives
 pub mod Forms
 pub mod Lines
 pub mod Replies
+pub mod Named

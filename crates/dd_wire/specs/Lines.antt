@@ -1,9 +1,11 @@
 -- Which lines are requests: a line is one JSON value that is text and has one of the forms.
-use Rattle.std.specs.Prelude.{ℕ, List, if◌then◌else◌, Option, None}
+use Rattle.std.specs.Prelude.{◌≡◌, ℕ, List, if◌then◌else◌, Option, None, Err}
 use Rattle.std.specs.Str.{is_utf8}
 use Rattle.serde_json.specs.Data.{Data}
 use Rattle.serde_json.specs.Read.{read}
 use Rattle.dd_wire.specs.declared.request.Request.{Request}
+use Rattle.dd_wire.specs.declared.request.WireErr.{WireErr}
+use Rattle.dd_wire.specs.declared.request.WireErr.TheVariants.{Code, NoMemory}
 use Rattle.dd_wire.specs.Forms.{request_of}
 use Rattle.dd_wire.specs.Refusal.{Tested, ◌>>=◌, or_refuse, bad_json, not_built}
 
@@ -16,3 +18,8 @@ unfoldable pub request_in : List ℕ → Tested Request
 request_in line = do
   value ← or_refuse bad_json (json_of line)
   or_refuse not_built (request_of value)
+
+-- an error is the refusal that the line has, or tells of want of memory
+abbrev pub IsRefused : WireErr → Tested Request → Type 0
+IsRefused (Code code n) found = found ≡ Err (record { code = code; n = n })
+IsRefused NoMemory found = Unit {0}

@@ -1,5 +1,5 @@
 -- The members of a JSON object, by the kinds of their values. An object has each key once: of equal members the last counts.
-use Rattle.std.specs.Prelude.{ℕ, ◌+◌, ◌==◌, List, [], ◌∷◌, Bool, if◌then◌else◌, Option, None, Some, option_and_then, option_map, is_some}
+use Rattle.std.specs.Prelude.{ℕ, ◌+◌, ◌==◌, List, [], ◌∷◌, if◌then◌else◌, Option, None, Some, option_and_then, option_map, is_some, ⊤}
 use Rattle.serde_json.specs.Data.{Data, Items, no_items, item, Members, no_members, member}
 use Rattle.serde_json.specs.Find.{get, as_str, as_array, as_object}
 
@@ -26,12 +26,12 @@ abbrev pub listed_at : List ℕ → Data → Option (List (List ℕ))
 listed_at key d = if is_some (get key d) then texts_at key d else Some []
 
 -- a member that is an empty list, or absent
-abbrev pub nothing_in : Items → Option Bool
-nothing_in no_items = Some Bool.true
+abbrev pub nothing_in : Items → Option ⊤
+nothing_in no_items = Some tt
 nothing_in (item d ds) = None
 
-abbrev pub empty_at : List ℕ → Data → Option Bool
-empty_at key d = if is_some (get key d) then option_and_then nothing_in (option_and_then as_array (get key d)) else Some Bool.true
+abbrev pub empty_at : List ℕ → Data → Option ⊤
+empty_at key d = if is_some (get key d) then option_and_then nothing_in (option_and_then as_array (get key d)) else Some tt
 
 -- 1 where the member is there
 abbrev pub presence : List ℕ → Data → ℕ
@@ -42,5 +42,5 @@ member_count no_members = 0
 member_count (member k d ms) = member_count ms + 1
 
 -- exactly so many members, so that with the wanted ones found there is no other
-abbrev pub sized : ℕ → Data → Option Bool
-sized n d = option_and_then (λ ms. if member_count ms == n then Some Bool.true else None) (as_object d)
+abbrev pub sized : ℕ → Data → Option ⊤
+sized n d = option_and_then (λ ms. if member_count ms == n then Some tt else None) (as_object d)

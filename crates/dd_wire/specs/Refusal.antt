@@ -1,5 +1,5 @@
 -- A refusal, and how tests follow one another: the first that fails refuses.
-use Rattle.std.specs.Prelude.{ℕ, List, [], ◌∷◌, Bool, if◌then◌else◌, Option, None, Some, Result, Ok, Err, ◌==◌, codes}
+use Rattle.std.specs.Prelude.{ℕ, List, [], Bool, if◌then◌else◌, Option, None, Some, Result, Ok, Err, ◌==◌, codes}
 
 -- the code of an error, with a number where the code has one
 pub record Refusal : Type 0 where

@@ -1,6 +1,8 @@
-use dd_concept::Items;
+ghost use Rattle.std.specs.Prelude.{◌≡◌, IfOk};
 
 use crate::request::Text;
+use dd_concept::{Items, NoMemory};
+use std::alloc::Global;
 
 /// One version number per peer, in the order in which the peers were declared.
 #[derive(Debug, Drop)]
@@ -15,4 +17,12 @@ pub enum Reply {
     Peers { id: u64, count: u32 },
     Put { id: u64, put: Text, version: u32 },
     Decided { id: u64, yes: bool, pin: Pin },
+}
+
+/// A copy of a pin.
+pub fn copy_pin(alloc: Global, pin: &Pin) -> Result<Pin, NoMemory>
+    ensures { IfOk result (λ p. p ≡ pin.now) }
+{
+    let versions = Items::from_slice(alloc, pin.versions.as_slice())?;
+    Ok(Pin { versions })
 }

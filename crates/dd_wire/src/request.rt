@@ -21,6 +21,8 @@ pub enum Request {
 /// Why a line is no request.
 #[derive(Debug, Drop)]
 pub enum WireErr {
+    /// The code of the first test that the line fails. No test of a line alone brings a number.
     Code { code: u8, n: Option<u64> },
+    /// Memory ran out, whatever the line is.
     NoMemory,
 }

@@ -1,0 +1,18 @@
+-- No reply has a float.
+use Rattle.std.proofs.Common.{◌≡◌, ℕ, false, List, [], ◌∷◌, refl}
+use Rattle.std.specs.Prelude.{None, Some, map}
+use Rattle.serde_json.specs.Written.{has_float, items_have_float}
+use Rattle.dd_wire.specs.Replies.{items_of, whole_number, reply_data}
+use Rattle.dd_wire.specs.declared.reply.Reply.{Reply}
+use Rattle.dd_wire.specs.declared.reply.Reply.TheVariants.{Refused, Peers, Put, Decided}
+
+no_float_in : (ns : List ℕ) → items_have_float (items_of (map whole_number ns)) ≡ false
+no_float_in [] = refl
+no_float_in (n ∷ ns) = no_float_in ns
+
+pub no_float : (reply : Reply) → has_float (reply_data reply) ≡ false
+no_float (Refused id code None) = refl
+no_float (Refused id code (Some n)) = refl
+no_float (Peers id count) = refl
+no_float (Put id put version) = refl
+no_float (Decided id verdict pin) = rw (no_float_in pin.versions)

@@ -1,0 +1,10 @@
+pub mod MemberCounts
+pub mod Places
+pub mod Fronts
+pub mod JsonLines
+pub mod NameBytes
+pub mod AxiomTexts
+pub mod Floats
+pub mod EmptyLists
+pub mod Named
+pub mod RefusalCodes
