@@ -1,0 +1,10 @@
+pub mod Index
+pub mod Reached
+pub mod Least
+pub mod Verdicts
+pub mod Numbering
+pub mod Requests
+pub mod Sessions
+pub mod Turning
+pub mod Runs
+pub mod GoesOn

@@ -1,0 +1,10 @@
+pub mod World
+pub mod History
+pub mod Session
+pub mod Above
+pub mod Verdict
+pub mod SessionState
+pub mod Status
+pub mod Headline
+pub mod Turns
+pub mod Numbers

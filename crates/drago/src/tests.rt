@@ -1,0 +1,309 @@
+ghost use Rattle.std.specs.Prelude.{◌≤◌};
+
+use crate::alone::drago_alone;
+use crate::status::USAGE;
+use dd_lines::{MemSink, MemSource};
+use std::alloc::Global;
+use std::test::Fail;
+
+const PEERS: &str = r#"{"op":"peers","names":["a"]}
+"#;
+
+const PUT: &str = r#"{"op":"put","peer":"a","axioms":["(implies A B)","(implies B C)"]}
+"#;
+
+const ASK: &str = r#"{"op":"ask","peer":"a","left":"A","right":"C"}
+"#;
+
+const REPLIES: &str = r#"{"id":1,"peers":1}
+{"id":2,"put":"a","version":1}
+{"id":3,"pin":[1],"verdict":"yes"}
+"#;
+
+/// What the sink was given by the end of a session with these words, and then the digit of its status.
+fn told(
+    alloc: Global,
+    texts: &[&str],
+    source: &mut MemSource,
+    sink: &mut MemSink,
+) -> Result<Vec<u8>, Fail> {
+    let mut words = Vec::new(alloc);
+    for text in texts {
+        words.push(String::from_str(alloc, text)?)?;
+    }
+    let status = drago_alone(alloc, words.as_slice(), source, sink);
+    let mut told = sink.bytes().to_vec(alloc)?;
+    told.push(b'0' + status.number())?;
+    Ok(told)
+}
+
+/// The same with ends that never fail, where a read brings at most `piece` bytes.
+fn answers(alloc: Global, input: &[u8], piece: usize) -> Result<Vec<u8>, Fail>
+    requires { 1 ≤ piece }
+{
+    let mut source = MemSource::new(input.to_vec(alloc)?, piece, Vec::new(alloc));
+    let mut sink = MemSink::new(alloc, 4096, 4096, Vec::new(alloc))?;
+    told(alloc, &["alone"], &mut source, &mut sink)
+}
+
+/// The same where reads of 10 bytes and writes of 16 bytes fail at these calls.
+fn breaks(alloc: Global, capacity: usize, reads: &[u64], writes: &[u64]) -> Result<Vec<u8>, Fail> {
+    let input = format!(in alloc; "{}{}{}", PEERS, PUT, ASK)?;
+    let mut source = MemSource::new(input.into_bytes(), 10, reads.to_vec(alloc)?);
+    let mut sink = MemSink::new(alloc, capacity, 16, writes.to_vec(alloc)?)?;
+    told(alloc, &["alone"], &mut source, &mut sink)
+}
+
+#[test]
+fn each_line_with_a_byte_is_a_request(rt: HostRuntime) -> Result<(), Fail> {
+    for (input, want) in [
+        ("", "0"),
+        ("\n\r\n\n", "0"),
+        ("\r", "0"),
+        (
+            "\n{\"op\":\"peers\",\"names\":[\"a\"]}\r\n\r\n\nnull",
+            "{\"id\":1,\"peers\":1}\n{\"code\":17,\"error\":\"not_built\",\"id\":2}\n0",
+        ),
+        (
+            " \n\r\r",
+            "{\"code\":1,\"error\":\"bad_json\",\"id\":1}\n{\"code\":1,\"error\":\"bad_json\",\"id\":2}\n0",
+        ),
+    ] {
+        for piece in [1, 4096] {
+            let got = answers(rt.alloc(), input.as_bytes(), piece)?;
+            assert_eq!(rt;
+                got.as_slice(),
+                want.as_bytes(),
+                "{piece} bytes a call of {input}"
+            );
+        }
+    }
+    Ok(())
+}
+
+#[test]
+fn the_front_of_an_input_is_answered(rt: HostRuntime) -> Result<(), Fail> {
+    let input = format!(in rt.alloc(); "{}{}{}", PEERS, PUT, ASK)?;
+    for (size, given, last) in [
+        (0, 0, ""),
+        (27, 0, "{\"code\":1,\"error\":\"bad_json\",\"id\":1}\n"),
+        (28, 19, ""),
+        (94, 19, "{\"code\":1,\"error\":\"bad_json\",\"id\":2}\n"),
+        (95, 50, ""),
+        (143, 85, ""),
+    ] {
+        let want = format!(in rt.alloc(); "{}{last}0", &REPLIES[..given])?;
+        for piece in [1, 4096] {
+            let got = answers(rt.alloc(), &input.as_bytes()[..size], piece)?;
+            assert_eq!(rt; got.as_slice(), want.as_bytes(), "{size} bytes");
+        }
+    }
+    Ok(())
+}
+
+#[test]
+fn a_name_is_under_those_that_the_axioms_lead_to(rt: HostRuntime) -> Result<(), Fail> {
+    for (axioms, left, right, want) in [
+        (r#""(implies A B)","(implies B C)""#, "A", "C", "yes"),
+        (r#""(implies A B)","(implies B C)""#, "A", "A", "yes"),
+        (r#""(implies A B)","(implies B C)""#, "A", "D", "no"),
+        (r#""(implies A B)","(implies B C)""#, "D", "D", "yes"),
+        (r#""(implies A B)","(implies B C)""#, "C", "A", "no"),
+        (
+            r#""(implies A B)","(implies B C)","(implies C A)""#,
+            "C",
+            "B",
+            "yes",
+        ),
+        (
+            r#""(implies A B)","(implies B C)","(implies C A)""#,
+            "A",
+            "D",
+            "no",
+        ),
+        ("", "A", "B", "no"),
+    ] {
+        let input = format!(in rt.alloc();
+            r#"{PEERS}{{"op":"put","peer":"a","axioms":[{axioms}]}}
+{{"op":"ask","peer":"a","left":"{left}","right":"{right}"}}"#
+        )?;
+        let want = format!(in rt.alloc();
+            "{}{{\"id\":3,\"pin\":[1],\"verdict\":\"{want}\"}}\n0",
+            &REPLIES[..50]
+        )?;
+        let got = answers(rt.alloc(), input.as_bytes(), 4096)?;
+        assert_eq!(rt; got.as_slice(), want.as_bytes(), "{left} under {right}");
+    }
+    Ok(())
+}
+
+#[test]
+fn an_ask_before_the_put_knows_no_axiom(rt: HostRuntime) -> Result<(), Fail> {
+    for (right, want) in [("A", "yes"), ("B", "no")] {
+        let input = format!(in rt.alloc();
+            r#"{PEERS}{{"op":"ask","peer":"a","left":"A","right":"{right}"}}"#
+        )?;
+        let want = format!(in rt.alloc();
+            "{}{{\"id\":2,\"pin\":[0],\"verdict\":\"{want}\"}}\n0",
+            &REPLIES[..19]
+        )?;
+        let got = answers(rt.alloc(), input.as_bytes(), 4096)?;
+        assert_eq!(rt; got.as_slice(), want.as_bytes(), "A under {right}");
+    }
+    Ok(())
+}
+
+#[test]
+fn a_refused_line_changes_nothing(rt: HostRuntime) -> Result<(), Fail> {
+    for (line, code, error) in [
+        (b"null".as_slice(), 17, "not_built"),
+        (
+            b"{\"op\":\"peers\",\"names\":[\"b\"]}".as_slice(),
+            17,
+            "not_built",
+        ),
+        (
+            b"{\"op\":\"put\",\"peer\":\"a\"}".as_slice(),
+            17,
+            "not_built",
+        ),
+        (
+            b"{\"op\":\"put\",\"peer\":\"a\",\"into\":[{\"from\":\"a\",\"source\":\"A\",\"target\":\"B\"}]}".as_slice(),
+            17,
+            "not_built",
+        ),
+        (
+            b"{\"op\":\"ask\",\"peer\":\"b\",\"left\":\"A\",\"right\":\"C\"}".as_slice(),
+            17,
+            "not_built",
+        ),
+        (
+            b"{\"op\":\"ask\",\"peer\":\"a\",\"left\":\"A\",\"right\":\"top\"}".as_slice(),
+            17,
+            "not_built",
+        ),
+        (b"{\"op\":\"ask\",\"peer\":\"a\"".as_slice(), 1, "bad_json"),
+        (b"null null".as_slice(), 1, "bad_json"),
+        (b"\"\xff\"".as_slice(), 1, "bad_json"),
+    ] {
+        let mut input = format!(in rt.alloc(); "{}{}", PEERS, PUT)?.into_bytes();
+        input.extend_from_slice(line)?;
+        input.push(b'\n')?;
+        input.extend_from_slice(ASK.as_bytes())?;
+        let want = format!(in rt.alloc();
+            "{}{{\"code\":{code},\"error\":\"{error}\",\"id\":3}}\n{{\"id\":4,\"pin\":[1],\"verdict\":\"yes\"}}\n0",
+            &REPLIES[..50]
+        )?;
+        let got = answers(rt.alloc(), input.as_slice(), 4096)?;
+        assert_eq!(rt; got.as_slice(), want.as_bytes());
+    }
+    Ok(())
+}
+
+#[test]
+fn one_peer_is_declared_before_all_else(rt: HostRuntime) -> Result<(), Fail> {
+    for line in [
+        r#"{"op":"peers","names":[]}"#,
+        r#"{"op":"peers","names":["a","b"]}"#,
+        r#"{"op":"peers","names":["top"]}"#,
+        r#"{"op":"put","peer":"a"}"#,
+        r#"{"op":"ask","peer":"a","left":"A","right":"A"}"#,
+    ] {
+        let input = format!(in rt.alloc(); "{line}\n{PEERS}")?;
+        let got = answers(rt.alloc(), input.as_bytes(), 4096)?;
+        assert_eq!(rt;
+            got.as_slice(),
+            &b"{\"code\":17,\"error\":\"not_built\",\"id\":1}\n{\"id\":2,\"peers\":1}\n0"[..],
+            "at {line}"
+        );
+    }
+    Ok(())
+}
+
+#[test]
+fn a_line_of_too_many_bytes_is_refused_alone(rt: HostRuntime) -> Result<(), Fail> {
+    for (size, want) in [
+        (
+            1_048_576,
+            &b"{\"code\":1,\"error\":\"bad_json\",\"id\":1}\n{\"id\":2,\"peers\":1}\n0"[..],
+        ),
+        (
+            1_048_577,
+            &b"{\"code\":16,\"error\":\"line_too_long\",\"id\":1}\n{\"id\":2,\"peers\":1}\n0"[..],
+        ),
+    ] {
+        let mut input = vec![in rt.alloc(); b' '; size]?;
+        input.push(b'\n')?;
+        input.extend_from_slice(PEERS.as_bytes())?;
+        let got = answers(rt.alloc(), input.as_slice(), 4096)?;
+        assert_eq!(rt; got.as_slice(), want, "{size} spaces");
+    }
+    Ok(())
+}
+
+#[test]
+fn a_read_that_fails_ends_the_replies_there(rt: HostRuntime) -> Result<(), Fail> {
+    for (call, given) in [
+        (0, 0),
+        (2, 0),
+        (3, 19),
+        (9, 19),
+        (10, 50),
+        (14, 50),
+        (15, 85),
+    ] {
+        let want = format!(in rt.alloc(); "{}3", &REPLIES[..given])?;
+        let got = breaks(rt.alloc(), 4096, &[call], &[])?;
+        assert_eq!(rt; got.as_slice(), want.as_bytes(), "at read {call}");
+    }
+    Ok(())
+}
+
+#[test]
+fn a_write_that_fails_ends_the_replies_there(rt: HostRuntime) -> Result<(), Fail> {
+    for (capacity, call, given) in [
+        (4096, 0, 0),
+        (4096, 1, 16),
+        (4096, 2, 19),
+        (4096, 3, 35),
+        (0, 100, 0),
+        (20, 100, 20),
+    ] {
+        let want = format!(in rt.alloc(); "{}4", &REPLIES[..given])?;
+        let got = breaks(rt.alloc(), capacity, &[], &[call])?;
+        assert_eq!(rt;
+            got.as_slice(),
+            want.as_bytes(),
+            "at write {call} of {capacity} bytes"
+        );
+    }
+    Ok(())
+}
+
+#[test]
+fn other_words_read_and_write_nothing(rt: HostRuntime) -> Result<(), Fail> {
+    let mut source = MemSource::new(
+        PEERS.as_bytes().to_vec(rt.alloc())?,
+        4096,
+        Vec::new(rt.alloc()),
+    );
+    let mut sink = MemSink::new(rt.alloc(), 4096, 4096, Vec::new(rt.alloc()))?;
+    for words in [
+        &[][..],
+        &["serve"][..],
+        &["alone", "alone"][..],
+        &["Alone"][..],
+        &["alone "][..],
+        &[""][..],
+    ] {
+        let got = told(rt.alloc(), words, &mut source, &mut sink)?;
+        assert_eq!(rt; got.as_slice(), &b"2"[..]);
+    }
+    let got = told(rt.alloc(), &["alone"], &mut source, &mut sink)?;
+    assert_eq!(rt; got.as_slice(), &b"{\"id\":1,\"peers\":1}\n0"[..]);
+    assert_eq!(rt;
+        USAGE,
+        &b"usage: drago serve|alone|make|drill [options]\n"[..]
+    );
+    Ok(())
+}
