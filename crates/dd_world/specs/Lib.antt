@@ -1,0 +1,4 @@
+pub mod Elements
+pub mod World
+pub mod Tests
+pub mod Faults
