@@ -1,17 +1,15 @@
 -- Where the text of an axiom leaves the grammar: in its head, in a side, or after its end.
-use Rattle.std.proofs.Common.{◌≡◌, ◌≢◌, ℕ, zero, suc, ◌+◌, ◌-◌, ◌<◌, ◌≤◌, Bool, true, false, cond, List, [], ◌∷◌, ◌++◌, length, take, drop, get_or, refl, sym, ap, ◌∙◌, subst, arith, append_assoc, length-append, length-drop, length-take, add-one}
-use Rattle.std.specs.Prelude.{◌&&◌, ◌==◌, codes, nat_eq, IsTrue}
+use Rattle.std.proofs.Common.{◌≡◌, ℕ, suc, ◌+◌, ◌<◌, ◌≤◌, true, false, cond, List, [], ◌∷◌, ◌++◌, length, take, drop, refl, sym, ap, ◌∙◌, subst, arith, append_assoc, length-append, length-drop, length-take}
+use Rattle.std.specs.Prelude.{codes, nat_eq}
 use Rattle.std.specs.List.{common_prefix_len}
-use Rattle.std.proofs.lemmas.Bool.{false≢true, eqb-true}
+use Rattle.std.proofs.lemmas.Bool.{eqb-true}
 use Rattle.std.proofs.lemmas.List.{append-nil, take-append-le, take-append-drop}
 use Rattle.std.proofs.lemmas.List.Sums.{common_prefix_len-le}
 use Rattle.dd_text.specs.Names.{is_byte_of_name}
-use Rattle.dd_text.specs.Grammar.{Term, top, term_text, axiom_text, is_written, Spells, SpellsAxiom, IsConceptText, IsAxiomText, Begins, IsBadAt}
+use Rattle.dd_text.specs.Grammar.{Term, top, term_text, axiom_text, is_written, IsConceptText, IsAxiomText, Begins, IsBadAt}
 use Rattle.dd_text.specs.declared.grammar.Scan.{Scan}
-use Rattle.dd_text.specs.declared.parts.Before.{Before}
-use Rattle.dd_text.specs.declared.parts.Sides.{Sides}
 use Rattle.dd_text.specs.Automaton.{reach, start}
-use Rattle.dd_text.specs.Parts.{IsPartOf, IsBefore, Leaves, IsWholeAxiom, axiom_head}
+use Rattle.dd_text.specs.Parts.{Leaves, axiom_head}
 use Rattle.dd_text.proofs.Verdicts.{Begins-take, whole_state, reach-whole, bad-at}
 
 -- the head, and the sides up to the last bracket

@@ -1,13 +1,12 @@
 -- The nodes of a term in the order of its text give back the term, its symbols and its concept.
-use Rattle.std.proofs.Common.{◌≡◌, ◌≢◌, ℕ, zero, suc, ◌+◌, ◌<◌, ◌≤◌, Bool, true, false, cond, List, [], ◌∷◌, ◌++◌, length, drop, get_or, refl, sym, ap, ◌∙◌, subst, arith, append_assoc, length-append}
-use Rattle.std.specs.Prelude.{◌&&◌, ◌||◌, IsTrue}
+use Rattle.std.proofs.Common.{◌≡◌, ℕ, suc, ◌+◌, ◌<◌, ◌≤◌, true, List, [], ◌∷◌, ◌++◌, length, drop, get_or, refl, sym, ap, ◌∙◌, arith, append_assoc, length-append}
 use Rattle.std.specs.List.{list_all}
 use Rattle.std.proofs.lemmas.List.{append-nil}
 use Rattle.std.proofs.Math.Seq.{drop-cons}
 use Rattle.dd_concept.specs.declared.concept.Concept.{Concept}
 use Rattle.dd_concept.specs.declared.concept.Concept.TheVariants as concept
 use Rattle.dd_text.specs.Names.{names_a_thing}
-use Rattle.dd_text.specs.Symbols.{SymbolLists, Appends, Grows, has_text, number_of, symbol_count, with_text, with_texts}
+use Rattle.dd_text.specs.Symbols.{SymbolLists, Grows, number_of, symbol_count, with_text, with_texts}
 use Rattle.dd_text.specs.Grammar.{Term, top, bottom, atomic, negation, conjunction, disjunction, existential, universal, is_written, term_nodes}
 use Rattle.dd_text.specs.Text.{concept_of, names_in, roles_in, with_term}
 use Rattle.dd_text.specs.declared.grammar.Sign.{Sign}

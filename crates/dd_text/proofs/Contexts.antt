@@ -1,6 +1,6 @@
 -- The forms that stand open round a place of a text. What the automaton has read is the beginning of some text of the grammar.
-use Rattle.std.proofs.Common.{◌≡◌, ◌≢◌, ℕ, suc, ◌+◌, ◌<◌, ◌≤◌, Bool, true, false, List, [], ◌∷◌, ◌++◌, length, map, refl, sym, ap, ◌∙◌, subst, arith, append_assoc, length-append, take, drop}
-use Rattle.std.specs.Prelude.{Option, Some, None, ◌&&◌, ◌||◌, ◌==◌, ◌⊎◌, nat_eq, nat_lt, nat_le, if◌then◌else◌, codes, not, slice_index}
+use Rattle.std.proofs.Common.{◌≡◌, ℕ, suc, ◌<◌, Bool, true, false, List, [], ◌∷◌, ◌++◌, length, refl, sym, ap, ◌∙◌, arith, append_assoc, length-append, take, drop}
+use Rattle.std.specs.Prelude.{◌&&◌, ◌||◌, ◌==◌, ◌⊎◌, nat_eq, nat_lt, nat_le, codes, not, slice_index}
 use Rattle.std.proofs.Common.{inl, inr}
 use Rattle.std.specs.List.{list_all, list_any, starts_with}
 use Rattle.std.specs.Str.{bytes_eq}
@@ -9,10 +9,10 @@ use Rattle.std.proofs.lemmas.List.{append-nil, take-append-drop}
 use Rattle.std.proofs.lemmas.Slice.Eq.{bytes_eq-Decides}
 use Rattle.std.proofs.Math.Seq.{drop-cons}
 use Rattle.dd_text.specs.Names.{names_a_thing, is_byte_of_name, begins_with_letter, longest_name, reserved, is_reserved_word}
-use Rattle.dd_text.specs.Grammar.{Term, top, bottom, atomic, negation, conjunction, disjunction, existential, universal, term_text, is_written, Spells, IsConceptText, Begins}
+use Rattle.dd_text.specs.Grammar.{Term, top, bottom, atomic, negation, conjunction, disjunction, existential, universal, term_text, is_written, IsConceptText, Begins}
 use Rattle.dd_text.specs.declared.grammar.Frame.{Frame}
 use Rattle.dd_text.specs.declared.grammar.Frame.TheVariants as frame
-use Rattle.dd_text.specs.Automaton.{continues, continues_keyword, extends, is_leaf, keywords}
+use Rattle.dd_text.specs.Automaton.{continues, continues_keyword, extends, is_leaf}
 use Rattle.dd_text.proofs.Reading.{IsNamelike, both_of, left_of, right_of}
 
 -- a form that stands open: `not`, the first or the second part of `and` (true) or `or`, what follows the role of `some` (true) or `all`

@@ -1,5 +1,5 @@
 -- Reading what was printed, and printing what was read.
-use Rattle.std.proofs.Common.{◌≡◌, ◌≢◌, ℕ, ◌+◌, ◌<◌, ◌≤◌, Bool, true, List, length, refl, sym, ap, ◌∙◌, subst, arith}
+use Rattle.std.proofs.Common.{◌≡◌, ℕ, ◌≤◌, true, List, refl, sym, ap, ◌∙◌, subst, arith}
 use Rattle.std.specs.Prelude.{Result, Ok, Err}
 use Rattle.dd_concept.specs.declared.concept.Concept.{Concept}
 use Rattle.dd_concept.specs.declared.concept.Axiom.{Axiom}
@@ -16,6 +16,7 @@ use Rattle.dd_text.proofs.Numbering.{has_text-Appends}
 use Rattle.dd_text.proofs.Building.{Grows-with_term}
 use Rattle.dd_text.proofs.Restoring.{AreIn, names-with_term, roles-with_term}
 use Rattle.dd_text.proofs.RoundTrip.{IsBack, depth_of-concept_of, has_symbols-concept_of, node_count-concept_of, term_of-concept_of, with_term-present, written_back}
+use Rattle.dd_text.proofs.WithinLimits.{first_over}
 use Rattle.dd_text.proofs.Unique.{Spells-unique, SpellsAxiom-unique}
 
 spells_printed : (s : SymbolLists) (c : Concept) → IsBack s c (term_of s c) → Spells (concept_text s c) (term_of s c)
@@ -53,10 +54,17 @@ spells_printed_axiom s a bl br = record { left_written = bl.written; right_writt
 stay_both : (s : SymbolLists) (a : Axiom) (l r : Term) → IsBack s a.left (term_of s a.left) → IsBack s a.right (term_of s a.right) → (l ≡ term_of s a.left) × (r ≡ term_of s a.right) → with_term (with_term s l) r ≡ s
 stay_both s a l r bl br same = ap (λ z. with_term z r) (stay s a.left l bl same.0) ∙ stay s a.right r br same.1
 
+-- a term that is a concept's has its nodes and its depth
+side_nodes : (s : SymbolLists) (c : Concept) (t : Term) → IsBack s c (term_of s c) → t ≡ term_of s c → term_nodes t ≡ node_count c
+side_nodes s c t b same = ap term_nodes same ∙ sym (node_count-concept_of s (term_of s c)) ∙ ap node_count b.same
+
+side_depth : (s : SymbolLists) (c : Concept) (t : Term) → IsBack s c (term_of s c) → t ≡ term_of s c → term_depth t ≡ depth_of c
+side_depth s c t b same = ap term_depth same ∙ sym (depth_of-concept_of s (term_of s c)) ∙ ap depth_of b.same
+
 abbrev axiom_from : Concept → Concept → Axiom
 axiom_from l r = record { left = l; right = r }
 
-pub printed-axiom-reads : (s : SymbolLists) (limits : Limits) (a : Axiom) (new : SymbolLists) (result : Result Axiom TextErr) → IsNumbering s → has_symbols s a.left ≡ true → has_symbols s a.right ≡ true → ReadsAxiom s limits (axiom_text_of s a) new result → (new ≡ s) × ReadsPrintedAxiom a result
+pub printed-axiom-reads : (s : SymbolLists) (limits : Limits) (a : Axiom) (new : SymbolLists) (result : Result Axiom TextErr) → IsNumbering s → has_symbols s a.left ≡ true → has_symbols s a.right ≡ true → ReadsAxiom s limits (axiom_text_of s a) new result → (new ≡ s) × ReadsPrintedAxiom limits a result
 printed-axiom-reads s limits a new (Ok b) numbering hl hr h =
     let bl = written_back s numbering a.left hl in
     let br = written_back s numbering a.right hr in
@@ -75,8 +83,24 @@ printed-axiom-reads s limits a new (Err err.SymbolsFull) numbering hl hr h =
     let br = written_back s numbering a.right hr in
     let same = SpellsAxiom-unique (axiom_text_of s a) h.1.0 h.1.1 (term_of s a.left) (term_of s a.right) h.1.2 (spells_printed_axiom s a bl br) in
     absurd (omega (arith, h.1.5, ap symbol_count (stay_both s a h.1.0 h.1.1 bl br same), numbering.few))
-printed-axiom-reads s limits a new (Err (err.TooLarge nodes)) numbering hl hr h = (h.0, tt)
-printed-axiom-reads s limits a new (Err (err.TooDeep depth)) numbering hl hr h = (h.0, tt)
+printed-axiom-reads s limits a new (Err (err.TooLarge nodes)) numbering hl hr h =
+    let bl = written_back s numbering a.left hl in
+    let br = written_back s numbering a.right hr in
+    let same = SpellsAxiom-unique (axiom_text_of s a) h.1.0 h.1.1 (term_of s a.left) (term_of s a.right) h.1.2 (spells_printed_axiom s a bl br) in
+    (h.0, (h.1.3, first_over limits.nodes _ _ _ _ h.1.3 (side_nodes s a.left h.1.0 bl same.0) (side_nodes s a.right h.1.1 br same.1) h.1.4, h.1.5))
+printed-axiom-reads s limits a new (Err (err.TooDeep depth)) numbering hl hr h =
+    let bl = written_back s numbering a.left hl in
+    let br = written_back s numbering a.right hr in
+    let same = SpellsAxiom-unique (axiom_text_of s a) h.1.0 h.1.1 (term_of s a.left) (term_of s a.right) h.1.2 (spells_printed_axiom s a bl br) in (
+      h.0,
+      (
+        subst (λ n. n ≤ limits.nodes) (side_nodes s a.left h.1.0 bl same.0) h.1.3,
+        subst (λ n. n ≤ limits.nodes) (side_nodes s a.right h.1.1 br same.1) h.1.4,
+        h.1.5,
+        first_over limits.depth _ _ _ _ h.1.5 (side_depth s a.left h.1.0 bl same.0) (side_depth s a.right h.1.1 br same.1) h.1.6,
+        h.1.7,
+      ),
+    )
 printed-axiom-reads s limits a new (Err err.NoMemory) numbering hl hr h = (h.0, tt)
 
 -- the symbols after reading have those of the term

@@ -1,6 +1,7 @@
 pub mod AxiomReads
 pub mod Building
 pub mod Contexts
+pub mod Decided
 pub mod Inverse
 pub mod Numbering
 pub mod PartReads

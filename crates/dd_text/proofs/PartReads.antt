@@ -1,15 +1,14 @@
 -- From how far the automaton came to what is told of a text: the concept that it is, or the place where it leaves the grammar.
-use Rattle.std.proofs.Common.{◌≡◌, ◌≢◌, ℕ, zero, suc, ◌+◌, ◌<◌, ◌≤◌, Bool, true, false, List, [], ◌∷◌, ◌++◌, length, take, drop, get_or, refl, sym, ap, ◌∙◌, subst, arith, append_assoc, length-append, length-drop, add-one}
-use Rattle.std.specs.Prelude.{◌&&◌, ◌==◌, codes, not, IsTrue}
-use Rattle.std.proofs.lemmas.Bool.{false≢true}
+use Rattle.std.proofs.Common.{◌≡◌, ℕ, suc, ◌+◌, ◌<◌, ◌≤◌, Bool, true, false, List, [], ◌∷◌, ◌++◌, length, drop, get_or, refl, sym, ap, ◌∙◌, subst, arith, append_assoc, length-append, length-drop}
+use Rattle.std.specs.Prelude.{not}
 use Rattle.std.proofs.lemmas.List.{append-nil}
 use Rattle.std.proofs.Math.Seq.{drop-cons}
 use Rattle.std.proofs.Math.ListN.{drop_of_length-le}
 use Rattle.dd_text.specs.Names.{is_byte_of_name}
-use Rattle.dd_text.specs.Grammar.{Term, top, term_text, axiom_text, term_depth, is_written, Spells, SpellsAxiom, IsConceptText, IsAxiomText, Begins, IsBadAt}
+use Rattle.dd_text.specs.Grammar.{Term, term_text, is_written, IsConceptText, Begins, IsBadAt}
 use Rattle.dd_text.specs.declared.grammar.Scan.{Scan}
 use Rattle.dd_text.specs.declared.grammar.Scanned.{Scanned}
-use Rattle.dd_text.specs.Automaton.{Scans, is_whole, reach, signs_of, start}
+use Rattle.dd_text.specs.Automaton.{Scans, is_whole, reach, start}
 use Rattle.dd_text.specs.Parts.{IsPartOf, IsBefore, Leaves, IsWholeConcept}
 use Rattle.dd_text.proofs.Verdicts.{Reached, reached, Seen-start, seen-begins, IsTermOf, whole-term, whole_state, reach-whole, bad-at}
 

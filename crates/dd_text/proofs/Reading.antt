@@ -1,14 +1,14 @@
 -- The automaton reads the text of each term: it passes its nodes and knows its depth.
-use Rattle.std.proofs.Common.{◌≡◌, ◌≢◌, ℕ, suc, ◌+◌, ◌<◌, ◌≤◌, max, Bool, true, false, List, [], ◌∷◌, ◌++◌, length, refl, sym, ap, ◌∙◌, subst, arith, append_assoc, length-append}
+use Rattle.std.proofs.Common.{◌≡◌, ℕ, suc, ◌+◌, ◌≤◌, max, Bool, true, false, List, [], ◌∷◌, ◌++◌, length, refl, sym, ap, ◌∙◌, subst, arith, append_assoc, length-append}
 use Rattle.std.specs.Prelude.{Option, Some, None, ◌&&◌, ◌||◌, ◌==◌, nat_lt, nat_le, if◌then◌else◌, codes, not}
-use Rattle.std.specs.List.{list_all, list_any}
+use Rattle.std.specs.List.{list_all}
 use Rattle.std.specs.Char.{is_ascii_alphabetic}
 use Rattle.std.specs.Str.{bytes_eq}
-use Rattle.std.proofs.lemmas.Bool.{false≢true, eqb-true, lt-ltb, le-leb, leb-true}
+use Rattle.std.proofs.lemmas.Bool.{false≢true, eqb-true, lt-ltb, leb-true}
 use Rattle.std.proofs.lemmas.List.{append-nil}
 use Rattle.std.proofs.lemmas.Slice.Eq.{bytes_eq-Decides}
-use Rattle.dd_text.specs.Names.{names_a_thing, is_byte_of_name, begins_with_letter, longest_name, reserved, is_reserved_word}
-use Rattle.dd_text.specs.Grammar.{Term, top, bottom, atomic, negation, conjunction, disjunction, existential, universal, term_text, term_depth, term_nodes, is_written, enclosed, spaced}
+use Rattle.dd_text.specs.Names.{names_a_thing, is_byte_of_name, begins_with_letter, longest_name, is_reserved_word}
+use Rattle.dd_text.specs.Grammar.{Term, top, bottom, atomic, negation, conjunction, disjunction, existential, universal, term_text, term_depth, is_written, spaced}
 use Rattle.dd_text.specs.declared.grammar.Mode.{Mode}
 use Rattle.dd_text.specs.declared.grammar.Mode.TheVariants as mode
 use Rattle.dd_text.specs.declared.grammar.Frame.{Frame}
@@ -16,7 +16,7 @@ use Rattle.dd_text.specs.declared.grammar.Frame.TheVariants as frame
 use Rattle.dd_text.specs.declared.grammar.Sign.{Sign}
 use Rattle.dd_text.specs.declared.grammar.Sign.TheVariants as sign
 use Rattle.dd_text.specs.declared.grammar.Scan.{Scan}
-use Rattle.dd_text.specs.Automaton.{after, extends, finished, is_leaf, leaf_sign, reach, signs_of, start, step, with_leaf, with_form}
+use Rattle.dd_text.specs.Automaton.{after, extends, finished, is_leaf, leaf_sign, reach, signs_of, step, with_leaf, with_form}
 
 abbrev pub state : Mode → List ℕ → List Frame → List Sign → ℕ → Scan
 state m w fs sg d = record { mode = m; word = w; stack = fs; signs = sg; depth = d }

@@ -1,9 +1,8 @@
 -- Symbols that were cut back, and concepts whose symbols grow.
-use Rattle.std.proofs.Common.{◌≡◌, ◌≢◌, ℕ, ◌+◌, ◌<◌, ◌≤◌, Bool, true, false, List, [], ◌∷◌, ◌++◌, length, take, refl, sym, ap, ◌∙◌, subst, arith}
+use Rattle.std.proofs.Common.{◌≡◌, ℕ, Bool, true, false, List, [], ◌∷◌, ◌++◌, length, take, refl, ap, ◌∙◌}
 use Rattle.std.specs.Prelude.{◌||◌}
-use Rattle.dd_concept.specs.declared.concept.Concept.{Concept}
 use Rattle.dd_concept.specs.declared.concept.Concept.TheVariants as concept
-use Rattle.dd_text.specs.Symbols.{SymbolLists, Appends, Grows, has_text, number_of, with_texts}
+use Rattle.dd_text.specs.Symbols.{SymbolLists, Grows, has_text, number_of}
 use Rattle.dd_text.specs.Grammar.{Term, top, bottom, atomic, negation, conjunction, disjunction, existential, universal}
 use Rattle.dd_text.specs.Text.{concept_of, names_in, roles_in, with_term}
 use Rattle.dd_text.proofs.Numbering.{bytes_eq-same, has_text-append, has_text-with_texts, number_of-Appends, take-Appends}

@@ -1,7 +1,6 @@
 -- From a term to its concept and back, and from a concept to its term and back.
-use Rattle.std.proofs.Common.{◌≡◌, ◌≢◌, ℕ, zero, suc, ◌+◌, ◌<◌, ◌≤◌, max, Bool, true, false, cond, List, [], ◌∷◌, ◌++◌, length, get_or, refl, sym, ap, ◌∙◌, subst, arith}
-use Rattle.std.specs.Prelude.{◌&&◌, ◌||◌, nat_lt, Some, slice_get, unwrap_or, IsTrue}
-use Rattle.std.specs.List.{list_all}
+use Rattle.std.proofs.Common.{◌≡◌, ℕ, zero, suc, ◌+◌, max, Bool, true, List, [], ◌∷◌, ◌++◌, length, refl, sym, ap, ◌∙◌, subst}
+use Rattle.std.specs.Prelude.{nat_lt, Some, slice_get, unwrap_or}
 use Rattle.std.specs.Str.{bytes_eq}
 use Rattle.std.proofs.lemmas.Slice.Eq.{bytes_eq-Decides}
 use Rattle.std.proofs.lemmas.Bool.{lt-ltb, ltb-true}
@@ -12,7 +11,7 @@ use Rattle.dd_concept.specs.Counts.{node_count, node_count_at, depth_of, depth_a
 use Rattle.dd_concept.proofs.Folds.{fold-Top, fold-Bottom, fold-Name, fold-Not, fold-And, fold-Or, fold-HasSome, fold-HasAll}
 use Rattle.dd_concept.proofs.Induction.{induct}
 use Rattle.dd_text.specs.Names.{names_a_thing}
-use Rattle.dd_text.specs.Symbols.{SymbolLists, IsNumbering, IsWithoutRepeats, are_names, has_text, number_of, with_text, with_texts}
+use Rattle.dd_text.specs.Symbols.{SymbolLists, IsNumbering, are_names, has_text, number_of, with_texts}
 use Rattle.dd_text.specs.Grammar.{Term, top, bottom, atomic, negation, conjunction, disjunction, existential, universal, is_written, term_depth, term_nodes}
 use Rattle.dd_text.specs.Text.{concept_of, has_symbols, has_symbols_at, names_in, roles_in, term_at, term_of, text_at, with_term}
 use Rattle.dd_text.proofs.Numbering.{has_text-append, has_text-slice_get, number_of-within, slice_get-number_of, with_text-present}

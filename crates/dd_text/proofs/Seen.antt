@@ -1,12 +1,12 @@
 -- What the automaton has read: its state shows which forms stand open, and the bytes before each of its stops.
-use Rattle.std.proofs.Common.{◌≡◌, ◌≢◌, ℕ, suc, ◌+◌, ◌<◌, ◌≤◌, Bool, true, false, List, [], ◌∷◌, ◌++◌, length, map, refl, sym, ap, ◌∙◌, subst, arith, append_assoc, inl, inr}
-use Rattle.std.specs.Prelude.{Option, Some, None, ◌&&◌, ◌||◌, ◌==◌, ◌⊎◌, if◌then◌else◌, codes, IsTrue}
+use Rattle.std.proofs.Common.{◌≡◌, ℕ, Bool, true, false, List, [], ◌∷◌, ◌++◌, map, refl, sym, ap, ◌∙◌, subst, append_assoc, inl, inr}
+use Rattle.std.specs.Prelude.{Option, Some, None, ◌&&◌, ◌==◌, if◌then◌else◌, codes}
 use Rattle.std.specs.Str.{bytes_eq}
-use Rattle.std.proofs.lemmas.Bool.{false≢true, eqb-true}
+use Rattle.std.proofs.lemmas.Bool.{eqb-true}
 use Rattle.std.proofs.lemmas.List.{append-nil}
 use Rattle.std.proofs.lemmas.Slice.Eq.{bytes_eq-Decides}
 use Rattle.dd_text.specs.Names.{names_a_thing}
-use Rattle.dd_text.specs.Grammar.{Term, top, atomic, negation, term_text, is_written, Spells, IsConceptText, Begins}
+use Rattle.dd_text.specs.Grammar.{Term, term_text, is_written}
 use Rattle.dd_text.specs.declared.grammar.Mode.{Mode}
 use Rattle.dd_text.specs.declared.grammar.Mode.TheVariants as mode
 use Rattle.dd_text.specs.declared.grammar.Frame.{Frame}
@@ -14,9 +14,9 @@ use Rattle.dd_text.specs.declared.grammar.Frame.TheVariants as frame
 use Rattle.dd_text.specs.declared.grammar.Sign.{Sign}
 use Rattle.dd_text.specs.declared.grammar.Sign.TheVariants as sign
 use Rattle.dd_text.specs.declared.grammar.Scan.{Scan}
-use Rattle.dd_text.specs.Automaton.{after, after_keyword, continues_keyword, extends, finished, is_leaf, reach, role_sign, start, step, with_form, with_leaf}
-use Rattle.dd_text.proofs.Reading.{IsNamelike, IsNamelike-names, both_of, left_of, right_of, state, reach-step}
-use Rattle.dd_text.proofs.Contexts.{Form, negated, first_part, second_part, filler, frame_of, is_form, are_forms, plug_one, plug_one-text, plug_one-written, joined-text, join_word, fill_word, opening, before, viable, IsFront, IsNamelike-extends, completes, IsKeywordFront, IsKeywordFront-nil, IsKeywordFront-continues, leaf_of}
+use Rattle.dd_text.specs.Automaton.{after, after_keyword, continues_keyword, extends, finished, is_leaf, step, with_form, with_leaf}
+use Rattle.dd_text.proofs.Reading.{IsNamelike, both_of, left_of, right_of, state}
+use Rattle.dd_text.proofs.Contexts.{Form, negated, first_part, second_part, filler, frame_of, is_form, are_forms, plug_one, plug_one-text, plug_one-written, join_word, fill_word, opening, before, IsFront, IsNamelike-extends, IsKeywordFront, IsKeywordFront-nil, IsKeywordFront-continues, leaf_of}
 
 -- what was read where the automaton is in this mode, within these forms
 abbrev pub Shows : Mode → List Form → List ℕ → List ℕ → Type 0

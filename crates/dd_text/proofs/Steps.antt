@@ -1,5 +1,5 @@
 -- A byte that does not fit, and how far the automaton comes.
-use Rattle.std.proofs.Common.{◌≡◌, ◌≢◌, ℕ, suc, ◌+◌, ◌<◌, ◌≤◌, Bool, true, false, List, [], ◌∷◌, ◌++◌, length, get_or, drop, refl, sym, ap, ◌∙◌, subst, arith, add-one}
+use Rattle.std.proofs.Common.{◌≡◌, ◌≢◌, ℕ, suc, ◌<◌, ◌≤◌, Bool, false, List, [], ◌∷◌, ◌++◌, length, get_or, drop, refl, sym, ap, ◌∙◌, subst}
 use Rattle.std.specs.Prelude.{Result, Ok, Err, IfOk, Option, Some, None, ◌&&◌, ◌==◌, if◌then◌else◌}
 use Rattle.std.specs.declared.alloc.AllocError.{AllocError}
 use Rattle.std.proofs.lemmas.Bool.{false≢true, ne_eqb}
@@ -9,7 +9,7 @@ use Rattle.dd_text.specs.declared.grammar.Mode.TheVariants as mode
 use Rattle.dd_text.specs.declared.grammar.Frame.TheVariants as frame
 use Rattle.dd_text.specs.declared.grammar.Scan.{Scan}
 use Rattle.dd_text.specs.declared.grammar.Scanned.{Scanned}
-use Rattle.dd_text.specs.Automaton.{Scans, Steps, after, extends, finished, is_whole, reach, role_step, role_sign, start, step, step_in, with_byte, with_form}
+use Rattle.dd_text.specs.Automaton.{Scans, Steps, extends, finished, is_whole, reach, role_step, role_sign, start, step, step_in, with_byte, with_form}
 
 pub stays : (o : Option Scan) (s : Scan) → o ≡ None → Steps o s s false
 stays o s e = subst (λ p. Steps p s s false) (sym e) (refl, refl)

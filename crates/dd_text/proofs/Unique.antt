@@ -1,8 +1,7 @@
 -- A text is that of one term, or of one pair of sides.
 use Rattle.std.proofs.Common.{◌≡◌, ℕ, List, [], ◌∷◌, ◌++◌, true, refl, sym, ap, ◌∙◌}
 use Rattle.std.proofs.lemmas.List.{append-nil}
-use Rattle.dd_text.specs.Names.{is_byte_of_name}
-use Rattle.dd_text.specs.Grammar.{Term, Spells, SpellsAxiom, axiom_text, is_written, term_text}
+use Rattle.dd_text.specs.Grammar.{Term, Spells, SpellsAxiom, is_written, term_text}
 use Rattle.dd_text.specs.declared.grammar.Scan.{Scan}
 use Rattle.dd_text.specs.Automaton.{reach, start}
 use Rattle.dd_text.proofs.Reading.{EndsWord}

@@ -1,10 +1,9 @@
 -- What follows from how far the automaton came: the text is one of the grammar, or the place where it leaves it.
-use Rattle.std.proofs.Common.{◌≡◌, ◌≢◌, ℕ, zero, suc, ◌+◌, ◌<◌, ◌≤◌, max, Bool, true, false, List, [], ◌∷◌, ◌++◌, length, map, take, drop, refl, sym, ap, ◌∙◌, subst, arith, append_assoc, length-append, inl, inr}
-use Rattle.std.specs.Prelude.{Option, Some, None, ◌&&◌, ◌||◌, ◌==◌, if◌then◌else◌, codes, IsTrue}
+use Rattle.std.proofs.Common.{◌≡◌, ℕ, suc, ◌+◌, ◌<◌, ◌≤◌, max, true, List, [], ◌∷◌, ◌++◌, length, map, take, drop, refl, sym, ap, ◌∙◌, subst, arith, append_assoc, length-append, inr}
+use Rattle.std.specs.Prelude.{Some, None, ◌&&◌, codes}
 use Rattle.std.proofs.lemmas.Bool.{false≢true}
 use Rattle.std.proofs.lemmas.List.{append-nil, take-append-le, take-append-drop}
-use Rattle.dd_text.specs.Names.{names_a_thing}
-use Rattle.dd_text.specs.Grammar.{Term, top, atomic, existential, universal, term_text, term_depth, is_written, Spells, IsConceptText, Begins, IsBadAt}
+use Rattle.dd_text.specs.Grammar.{Term, top, atomic, existential, universal, term_text, term_depth, is_written, IsConceptText, Begins, IsBadAt}
 use Rattle.dd_text.specs.declared.grammar.Mode.{Mode}
 use Rattle.dd_text.specs.declared.grammar.Mode.TheVariants as mode
 use Rattle.dd_text.specs.declared.grammar.Frame.{Frame}
@@ -13,7 +12,7 @@ use Rattle.dd_text.specs.declared.grammar.Scan.{Scan}
 use Rattle.dd_text.specs.Automaton.{finished, is_whole, reach, signs_of, start, step}
 use Rattle.dd_text.proofs.Steps.{reach-none}
 use Rattle.dd_text.proofs.Reading.{EndsWord, state, reach-step, reach-term}
-use Rattle.dd_text.proofs.Contexts.{Form, frame_of, before, viable, IsFront, completes, fill_word}
+use Rattle.dd_text.proofs.Contexts.{Form, frame_of, before, viable, completes}
 use Rattle.dd_text.proofs.Seen.{Seen, seen-step, seen-finished}
 
 -- how far the automaton came from a state, and that the byte after that is what stopped it

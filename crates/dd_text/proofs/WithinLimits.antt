@@ -1,7 +1,7 @@
 -- The limits of concepts and of sides, as they were counted and as they are told of the text.
-use Rattle.std.proofs.Common.{◌≡◌, ◌∙◌, ℕ, ◌≤◌, ◌<◌, List, length, ap, sym, subst, refl}
+use Rattle.std.proofs.Common.{◌≡◌, ◌∙◌, ℕ, ◌≤◌, List, length, ap, subst, refl}
 use Rattle.dd_text.specs.Symbols.{SymbolLists}
-use Rattle.dd_text.specs.Grammar.{Term, term_depth, term_nodes}
+use Rattle.dd_text.specs.Grammar.{Term, term_nodes}
 use Rattle.dd_text.specs.declared.build.BuildErr.{BuildErr}
 use Rattle.dd_text.specs.declared.build.BuildErr.TheVariants as built
 use Rattle.dd_text.specs.declared.parts.Part.{Part}
@@ -10,7 +10,8 @@ use Rattle.dd_text.specs.declared.read.Limits.{Limits}
 use Rattle.dd_text.specs.declared.read.TextErr.{TextErr}
 use Rattle.dd_text.specs.declared.read.TextErr.TheVariants as err
 use Rattle.dd_text.specs.Parts.{IsPartOf, IsWholeAxiom}
-use Rattle.dd_text.specs.Reads.{AreWithin, IsFirstOver, IsWithin, OverSides, RefusesAxiom, RefusesConcept, refusal_of}
+use Rattle.dd_text.specs.Reads.{IsFirstOver, IsWithin, RefusesAxiom, RefusesConcept}
+use Rattle.dd_text.specs.Limits.{AreWithin, OverSides, refusal_of}
 use Rattle.dd_text.proofs.Building.{length-signs_of}
 
 pub part_nodes : (p : Part) (t : Term) → IsPartOf p t → length p.signs ≡ term_nodes t
@@ -28,7 +29,8 @@ right_within limits text s w h = record {
   depth = subst (λ n. n ≤ limits.depth) w.right_part.depth h.right_depth;
 }
 
-first_over : (limit a b c d n : ℕ) → a ≡ c → b ≡ d → IsFirstOver limit a b n → IsFirstOver limit c d n
+-- the first number above the limit, of equal numbers
+pub first_over : (limit a b c d n : ℕ) → a ≡ c → b ≡ d → IsFirstOver limit a b n → IsFirstOver limit c d n
 first_over limit a b c d n ha hb h = subst (λ k. IsFirstOver limit k d n) ha (subst (λ k. IsFirstOver limit a k n) hb h)
 
 pub refuses : (old : SymbolLists) (limits : Limits) (text : List ℕ) (s : Sides) (e : TextErr) → IsWholeAxiom text s → OverSides limits s e → RefusesAxiom old limits text e

@@ -1,5 +1,5 @@
 -- How a concept is put together from its nodes in the order of the text, from the last one back.
-use Rattle.std.specs.Prelude.{◌≡◌, ℕ, Bool, true, List, [], ◌∷◌, IsTrue}
+use Rattle.std.specs.Prelude.{◌≡◌, Bool, true, List, [], ◌∷◌, IsTrue}
 use Rattle.dd_concept.specs.declared.concept.Concept.{Concept}
 use Rattle.dd_concept.specs.declared.concept.Concept.TheVariants as concept
 use Rattle.dd_text.specs.Names.{names_a_thing}

@@ -1,12 +1,12 @@
 -- Reading and printing are inverse, and a text is that of one tree.
-use Rattle.std.specs.Prelude.{◌≡◌, ℕ, ◌<◌, List, IsTrue, Result, Ok, Err}
+use Rattle.std.specs.Prelude.{◌≡◌, ℕ, ◌<◌, ◌≤◌, List, IsTrue, Result, Ok, Err}
 use Rattle.dd_concept.specs.declared.concept.Concept.{Concept}
 use Rattle.dd_concept.specs.declared.concept.Axiom.{Axiom}
 use Rattle.dd_concept.specs.Counts.{depth_of, node_count}
 use Rattle.dd_text.specs.Symbols.{IsNumbering, SymbolLists}
 use Rattle.dd_text.specs.Grammar.{Spells, SpellsAxiom, Term}
 use Rattle.dd_text.specs.Text.{axiom_text_of, concept_text, has_symbols}
-use Rattle.dd_text.specs.Reads.{IsAxiomOf, IsConceptOf, ReadsAxiom, ReadsConcept}
+use Rattle.dd_text.specs.Reads.{IsAxiomOf, IsConceptOf, IsFirstOver, ReadsAxiom, ReadsConcept, told}
 use Rattle.dd_text.specs.declared.read.Limits.{Limits}
 use Rattle.dd_text.specs.declared.read.TextErr.{TextErr}
 use Rattle.dd_text.specs.declared.read.TextErr.TheVariants as err
@@ -38,16 +38,23 @@ PrintedConceptsRead = (s : SymbolLists) (limits : Limits) (c : Concept) (new : S
 abbrev pub ReadConceptsPrint : Type 0
 ReadConceptsPrint = (old new : SymbolLists) (limits : Limits) (text : List ℕ) (c : Concept) → IsConceptOf old limits text new c → concept_text new c ≡ text
 
--- what is read of a printed axiom is the axiom, and the symbols stay
-abbrev pub ReadsPrintedAxiom : Axiom → Result Axiom TextErr → Type 0
-ReadsPrintedAxiom a (Ok b) = b ≡ a
-ReadsPrintedAxiom a (Err (err.Bad at)) = ⊥
-ReadsPrintedAxiom a (Err err.SymbolsFull) = ⊥
-ReadsPrintedAxiom a (Err e) = Unit {0}
+-- why the text of this axiom is refused: a side is too large, or none is and a side is too deep, the left side is tested
+-- first and the number is that of the side; or there is no memory
+abbrev pub RefusesPrintedAxiom : Limits → Axiom → TextErr → Type 0
+RefusesPrintedAxiom limits a (err.TooLarge nodes) = (n : ℕ) × IsFirstOver limits.nodes (node_count a.left) (node_count a.right) n × (nodes ≡ told n)
+RefusesPrintedAxiom limits a (err.TooDeep depth) =
+    (node_count a.left ≤ limits.nodes) × (node_count a.right ≤ limits.nodes) × (n : ℕ) × IsFirstOver limits.depth (depth_of a.left) (depth_of a.right) n × (depth ≡ told n)
+RefusesPrintedAxiom limits a err.NoMemory = Unit {0}
+RefusesPrintedAxiom limits a e = ⊥
 
+abbrev pub ReadsPrintedAxiom : Limits → Axiom → Result Axiom TextErr → Type 0
+ReadsPrintedAxiom limits a (Ok b) = b ≡ a
+ReadsPrintedAxiom limits a (Err e) = RefusesPrintedAxiom limits a e
+
+-- what is read of a printed axiom is the axiom, and the symbols stay
 abbrev pub PrintedAxiomsRead : Type 0
 PrintedAxiomsRead = (s : SymbolLists) (limits : Limits) (a : Axiom) (new : SymbolLists) (result : Result Axiom TextErr)
-    → IsNumbering s → IsTrue (has_symbols s a.left) → IsTrue (has_symbols s a.right) → ReadsAxiom s limits (axiom_text_of s a) new result → (new ≡ s) × ReadsPrintedAxiom a result
+    → IsNumbering s → IsTrue (has_symbols s a.left) → IsTrue (has_symbols s a.right) → ReadsAxiom s limits (axiom_text_of s a) new result → (new ≡ s) × ReadsPrintedAxiom limits a result
 
 -- what is printed of an axiom that was read is the text
 abbrev pub ReadAxiomsPrint : Type 0

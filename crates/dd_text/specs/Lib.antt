@@ -2,6 +2,7 @@ pub mod Automaton
 pub mod Build
 pub mod Grammar
 pub mod Laws
+pub mod Limits
 pub mod Names
 pub mod Parts
 pub mod Reads

@@ -1,14 +1,11 @@
 -- What reading a text answers: each answer's cause, in the order in which they are tested, and the symbols after it.
-use Rattle.std.specs.Prelude.{◌≡◌, ℕ, ◌+◌, ◌<◌, ◌≤◌, ◌⊎◌, List, length, min, Result, Ok, Err}
+use Rattle.std.specs.Prelude.{◌≡◌, ℕ, ◌<◌, ◌≤◌, ◌⊎◌, List, min, Result, Ok, Err}
 use Rattle.dd_concept.specs.declared.concept.Concept.{Concept}
 use Rattle.dd_concept.specs.declared.concept.Axiom.{Axiom}
 use Rattle.dd_concept.specs.Counts.{depth_of, node_count}
 use Rattle.dd_text.specs.Symbols.{SymbolLists, most_symbols, symbol_count}
 use Rattle.dd_text.specs.Grammar.{Term, IsAxiomText, IsBadAt, IsConceptText, Spells, SpellsAxiom, term_depth, term_nodes}
 use Rattle.dd_text.specs.Text.{axiom_of, concept_of, with_term}
-use Rattle.dd_text.specs.declared.build.BuildErr.{BuildErr}
-use Rattle.dd_text.specs.declared.build.BuildErr.TheVariants as built
-use Rattle.dd_text.specs.declared.parts.Sides.{Sides}
 use Rattle.dd_text.specs.declared.read.Limits.{Limits}
 use Rattle.dd_text.specs.declared.read.TextErr.{TextErr}
 use Rattle.dd_text.specs.declared.read.TextErr.TheVariants as err
@@ -77,22 +74,3 @@ RefusesAxiom old limits text err.NoMemory = Unit {0}
 abbrev pub ReadsAxiom : SymbolLists → Limits → List ℕ → SymbolLists → Result Axiom TextErr → Type 0
 ReadsAxiom old limits text new (Ok a) = IsAxiomOf old limits text new a
 ReadsAxiom old limits text new (Err e) = (new ≡ old) × RefusesAxiom old limits text e
-
--- the sides that were read are within the limits
-pub record AreWithin (limits : Limits) (s : Sides) : Type 0 where
-  pub left_nodes : length s.left.signs ≤ limits.nodes
-  pub right_nodes : length s.right.signs ≤ limits.nodes
-  pub left_depth : s.left.depth ≤ limits.depth
-  pub right_depth : s.right.depth ≤ limits.depth
-
--- why they are not
-abbrev pub OverSides : Limits → Sides → TextErr → Type 0
-OverSides limits s (err.TooLarge nodes) = (n : ℕ) × IsFirstOver limits.nodes (length s.left.signs) (length s.right.signs) n × (nodes ≡ told n)
-OverSides limits s (err.TooDeep depth) =
-    (length s.left.signs ≤ limits.nodes) × (length s.right.signs ≤ limits.nodes) × (n : ℕ) × IsFirstOver limits.depth s.left.depth s.right.depth n × (depth ≡ told n)
-OverSides limits s e = ⊥
-
--- why what was read could not be built
-abbrev pub refusal_of : BuildErr → TextErr
-refusal_of built.SymbolsFull = err.SymbolsFull
-refusal_of built.NoMemory = err.NoMemory

@@ -1,5 +1,5 @@
 -- What a text says over numbered names and roles, and how a concept is written over them.
-use Rattle.std.specs.Prelude.{ℕ, ◌+◌, Bool, true, ◌&&◌, nat_lt, List, [], ◌∷◌, ◌++◌, length, slice_get, unwrap_or}
+use Rattle.std.specs.Prelude.{ℕ, Bool, true, ◌&&◌, nat_lt, List, [], ◌∷◌, ◌++◌, length, slice_get, unwrap_or}
 use Rattle.dd_concept.specs.declared.concept.Concept.{Concept}
 use Rattle.dd_concept.specs.declared.concept.Concept.TheOpen.{Concept-F}
 use Rattle.dd_concept.specs.declared.concept.Concept.TheFolds.{fold-Concept}

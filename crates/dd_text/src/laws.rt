@@ -6,7 +6,8 @@ pub fn texts_are_unique()
     ensures axioms { AxiomTextsAreUnique }
 {}
 
-/// What is printed is read back: the same concept or axiom, with no new symbols, unless it is too large or too deep.
+/// What is printed is read back: the same concept or axiom, with no new symbols, unless it, or a side of it, is too large or
+/// too deep, or there is no memory.
 pub fn printed_texts_read()
     ensures concepts { PrintedConceptsRead }
     ensures axioms { PrintedAxiomsRead }

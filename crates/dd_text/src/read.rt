@@ -1,6 +1,7 @@
 ghost use Rattle.std.specs.Prelude.{◌≡◌, ◌<◌, ◌≤◌, IfErr, IfOk, IsTrue, OnOk, length};
 ghost use Rattle.dd_text.specs.Text.{has_symbols};
-ghost use Rattle.dd_text.specs.Reads.{AreWithin, IsSmall, OverSides, ReadsAxiom, ReadsConcept, refusal_of, told};
+ghost use Rattle.dd_text.specs.Limits.{AreWithin, OverSides, refusal_of};
+ghost use Rattle.dd_text.specs.Reads.{IsSmall, ReadsAxiom, ReadsConcept, told};
 ghost use Rattle.dd_text.specs.declared.read.TextErr.TheVariants as err;
 
 use crate::build::{BuildErr, build_axiom, build_concept};

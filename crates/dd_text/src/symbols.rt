@@ -99,14 +99,15 @@ impl Symbols {
         self.roles.truncate(m.roles as usize);
     }
 
-    // The number of a name, or how many names there are where it is none of them.
-    pub(crate) fn name_number(&self, text: &[u8]) -> u32
+    /// The number of a name, or how many names there are where it is none of them.
+    pub fn name_number(&self, text: &[u8]) -> u32
         ensures { result ≡ number_of self.now.names text.now }
     {
         number_in(&self.names, text)
     }
 
-    pub(crate) fn role_number(&self, text: &[u8]) -> u32
+    /// The number of a role, or how many roles there are where it is none of them.
+    pub fn role_number(&self, text: &[u8]) -> u32
         ensures { result ≡ number_of self.now.roles text.now }
     {
         number_in(&self.roles, text)

@@ -1,8 +1,8 @@
-use Rattle.std.proofs.Common.{◌≡◌, ◌∙◌, ◌+◌, ap, sym, subst, arith, drop, true, refl}
+use Rattle.std.proofs.Common.{◌≡◌, ◌∙◌, ◌+◌, ap, sym, subst, arith, drop, refl}
 use Rattle.std.specs.List.{list_all}
 use Rattle.dd_text.specs.Symbols.{Grows, symbol_count}
-use Rattle.dd_text.specs.Build.{is_sign, with_sign, with_signs}
-use Rattle.dd_text.proofs.Reading.{left_of, right_of}
+use Rattle.dd_text.specs.Build.{is_sign, with_sign}
+use Rattle.dd_text.proofs.Reading.{right_of}
 use Rattle.dd_text.proofs.Building.{Grows-trans, Grows-with_sign, drop-next, symbol_count-with_signs, with_signs-next}
 use Rattle.dd_text.proofs.build.add_signs.Goals as goal
 

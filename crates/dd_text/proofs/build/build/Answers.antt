@@ -1,4 +1,4 @@
-use Rattle.std.proofs.Common.{◌≡◌, ◌∙◌, ap, sym}
+use Rattle.std.proofs.Common.{◌∙◌, ap, sym}
 use Rattle.dd_text.specs.Build.{built}
 use Rattle.dd_text.proofs.Building.{built-push}
 use Rattle.dd_text.proofs.build.build.Goals as goal

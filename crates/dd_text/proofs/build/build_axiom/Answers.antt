@@ -1,9 +1,8 @@
-use Rattle.std.proofs.Common.{◌≡◌, ◌∙◌, ap, sym, subst, arith}
+use Rattle.std.proofs.Common.{◌≡◌, ◌∙◌, ap, sym, arith}
 use Rattle.std.specs.Prelude.{Err}
 use Rattle.dd_concept.specs.declared.concept.Concept.{Concept}
 use Rattle.dd_concept.specs.declared.concept.Axiom.{Axiom}
-use Rattle.dd_text.specs.Symbols.{symbol_count}
-use Rattle.dd_text.specs.Text.{axiom_of, concept_of, with_term}
+use Rattle.dd_text.specs.Text.{concept_of, with_term}
 use Rattle.dd_text.specs.declared.build.BuildErr.TheVariants.{SymbolsFull}
 use Rattle.dd_text.proofs.Building.{Grows-with_term, symbol_count-Grows}
 use Rattle.dd_text.proofs.Restoring.{concept_of-with_term}

@@ -1,8 +1,7 @@
-use Rattle.std.proofs.Common.{◌≡◌, ◌∙◌, ◌∷◌, [], List, ap, sym, subst, arith, true}
+use Rattle.std.proofs.Common.{◌≡◌, ◌∙◌, ◌∷◌, [], ap, sym, arith}
 use Rattle.std.specs.Prelude.{Err}
 use Rattle.dd_text.specs.declared.build.BuildErr.TheVariants.{SymbolsFull}
 use Rattle.std.specs.List.{list_all}
-use Rattle.dd_concept.specs.declared.concept.Concept.{Concept}
 use Rattle.dd_text.specs.Symbols.{symbol_count}
 use Rattle.dd_text.specs.Text.{concept_of}
 use Rattle.dd_text.specs.Build.{built, is_sign, with_signs}

@@ -1,6 +1,6 @@
-use Rattle.std.proofs.Common.{◌≡◌, ◌∙◌, ap, sym, false, drop, subst, arith, get_or}
-use Rattle.dd_text.specs.Automaton.{Scans, reach, start, step}
-use Rattle.dd_text.proofs.Steps.{Stops, stops, reach-stops, scans_from}
+use Rattle.std.proofs.Common.{arith, get_or}
+use Rattle.dd_text.specs.Automaton.{step}
+use Rattle.dd_text.proofs.Steps.{stops, reach-stops, scans_from}
 use Rattle.dd_text.proofs.grammar.scan_concept.Goals as goal
 
 pub returns-then-not-branch : goal.returns-then-not-branch

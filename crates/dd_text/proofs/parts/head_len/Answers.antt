@@ -1,5 +1,4 @@
-use Rattle.std.proofs.Common.{◌≡◌, ◌∙◌, ◌+◌, ap, sym, arith, drop, length, get_or, nat_eq, true, eq-eqb}
-use Rattle.std.specs.List.{common_prefix_len}
+use Rattle.std.proofs.Common.{◌≡◌, ◌∙◌, ◌+◌, ap, sym, arith, get_or, nat_eq, true, eq-eqb}
 use Rattle.std.proofs.lemmas.List.Sums.{common_prefix_len-drop_yes}
 use Rattle.dd_text.specs.Parts.{axiom_head}
 use Rattle.dd_text.proofs.parts.head_len.Goals as goal

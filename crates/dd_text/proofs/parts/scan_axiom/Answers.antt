@@ -1,10 +1,8 @@
-use Rattle.std.proofs.Common.{◌≡◌, ◌∙◌, ◌+◌, ◌-◌, ◌≤◌, ◌<◌, ℕ, List, [], ap, sym, subst, arith, drop, length, length-drop, ◌++◌, ◌∷◌}
-use Rattle.std.specs.List.{common_prefix_len}
+use Rattle.std.proofs.Common.{◌≡◌, ◌∙◌, ◌+◌, ◌≤◌, ℕ, List, [], ap, sym, subst, arith, drop, length, length-drop, ◌++◌}
 use Rattle.std.proofs.lemmas.List.{append-nil, drop-drop}
 use Rattle.std.proofs.Math.ListN.{drop_of_length-le}
 use Rattle.dd_text.specs.Grammar.{IsBadAt, IsAxiomText, axiom_text}
 use Rattle.dd_text.specs.Parts.{axiom_head, IsBefore, LeavesBefore, Leaves}
-use Rattle.dd_text.specs.declared.parts.ScanErr.{ScanErr}
 use Rattle.dd_text.proofs.AxiomReads.{head-fails, head-whole, left-fails, right-fails, end-fails, sides-length, sides-read}
 use Rattle.dd_text.proofs.parts.scan_axiom.Goals as goal
 use Rattle.dd_text.proofs.parts.scan_axiom.Goals.{Else-head-lt9, In-Ok, In-Ok-scan_before}

@@ -1,4 +1,4 @@
-use Rattle.std.proofs.Common.{◌≡◌, ◌∙◌, ℕ, suc, List, sym, ap, length, length-drop, arith, drop, [], ◌∷◌, get_or, not}
+use Rattle.std.proofs.Common.{◌≡◌, ◌∙◌, suc, sym, ap, length, length-drop, arith, drop, ◌∷◌, get_or, not}
 use Rattle.std.proofs.lemmas.Bool.{false≢true}
 use Rattle.std.proofs.Math.Seq.{drop-cons}
 use Rattle.dd_text.proofs.PartReads.{not_false, leaves-from, before-from}

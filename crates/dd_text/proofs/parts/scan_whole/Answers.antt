@@ -1,4 +1,4 @@
-use Rattle.std.proofs.Common.{◌≡◌, ◌∙◌, ℕ, List, sym, ap, length, length-drop, arith, drop, [], not}
+use Rattle.std.proofs.Common.{◌∙◌, sym, ap, length, length-drop, arith, not}
 use Rattle.std.proofs.lemmas.Bool.{false≢true}
 use Rattle.dd_text.proofs.PartReads.{not_false, bad-concept, whole-from}
 use Rattle.dd_text.proofs.parts.scan_whole.Goals as goal

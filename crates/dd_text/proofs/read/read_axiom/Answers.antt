@@ -1,4 +1,4 @@
-use Rattle.std.proofs.Common.{◌≡◌, ap, refl, subst, sym}
+use Rattle.std.proofs.Common.{ap, refl, subst, sym}
 use Rattle.std.specs.Prelude.{Err}
 use Rattle.dd_text.proofs.WithinLimits.{left_within, refuses, refuses_axiom, right_within}
 use Rattle.dd_text.specs.Reads.{IsAxiomOf, RefusesAxiom}

@@ -1,8 +1,6 @@
-use Rattle.std.proofs.Common.{◌≡◌, ◌∙◌, ◌≤◌, ◌<◌, ap, sym, subst, refl, length}
+use Rattle.std.proofs.Common.{◌≤◌, ◌<◌, ap, sym, subst, refl}
 use Rattle.std.specs.Prelude.{Err}
-use Rattle.dd_text.specs.Grammar.{term_nodes}
 use Rattle.dd_text.specs.Reads.{IsConceptOf, RefusesConcept, told}
-use Rattle.dd_text.specs.Parts.{IsWholeConcept}
 use Rattle.dd_text.proofs.WithinLimits.{part_nodes, refuses_concept}
 use Rattle.dd_text.proofs.Inverse.{read-depth_of, read-has_symbols, read-node_count}
 use Rattle.dd_text.proofs.Restoring.{restored}

@@ -1,6 +1,5 @@
-use Rattle.std.proofs.Common.{◌≡◌, ◌∙◌, ap, sym, false}
+use Rattle.std.proofs.Common.{◌≡◌, false}
 use Rattle.dd_text.specs.Automaton.{extends}
-use Rattle.dd_text.specs.declared.grammar.Mode.TheVariants as mode
 use Rattle.dd_text.proofs.Steps.{stays, concept_stays}
 use Rattle.dd_text.proofs.grammar.Scan.step_concept.Goals as goal
 

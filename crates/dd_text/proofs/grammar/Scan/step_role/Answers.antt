@@ -1,4 +1,4 @@
-use Rattle.std.proofs.Common.{◌≡◌, ◌∙◌, ap, sym, false, Bool, true, refl}
+use Rattle.std.proofs.Common.{◌≡◌, ◌∙◌, ap, false, Bool, true, refl}
 use Rattle.std.specs.Prelude.{◌&&◌, ◌==◌}
 use Rattle.std.proofs.lemmas.Bool.{ne_eqb}
 use Rattle.dd_text.specs.Names.{names_a_thing}
