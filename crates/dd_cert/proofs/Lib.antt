@@ -1,0 +1,4 @@
+pub mod Adding
+pub mod Certifying
+pub mod OtherLengths
+pub mod Passing
