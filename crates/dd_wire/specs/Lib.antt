@@ -1,7 +1,9 @@
 pub mod Refusal
-pub mod Members
-pub mod Gives
 pub mod Forms
 pub mod Lines
+pub mod Accepted
+pub mod Placed
+pub mod Texts
+pub mod Requests
+pub mod Progress
 pub mod Replies
-pub mod Named

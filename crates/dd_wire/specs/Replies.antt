@@ -1,11 +1,15 @@
 -- The text of a reply: compact JSON, its members in the byte order of their names.
-use Rattle.std.specs.Prelude.{ℕ, ◌==◌, ◌||◌, List, [], ◌∷◌, map, Bool, true, false, Option, None, Some, IsTrue, ⊤, codes}
+use Rattle.std.specs.Prelude.{ℕ, List, [], ◌∷◌, map, Bool, true, false, Option, None, Some, IsTrue, ⊤, codes}
 use Rattle.serde_json.specs.Data.{Data, unsigned, number, string, array, object, Items, no_items, item, Members, no_members, member}
 use Rattle.serde_json.specs.Written.{compact_text}
 use Rattle.dd_text.specs.Names.{names_a_thing}
-use Rattle.dd_wire.specs.Refusal.{error_name, line_too_long, bad_json, not_built}
+use Rattle.dd_wire.specs.Refusal.{error_name}
+use Rattle.dd_wire.specs.declared.reply.BadWorld.{BadWorld}
+use Rattle.dd_wire.specs.declared.reply.BadWorld.TheVariants as fault
+use Rattle.dd_wire.specs.declared.reply.Unread.{Unread}
+use Rattle.dd_wire.specs.declared.reply.Unread.TheVariants as unread
 use Rattle.dd_wire.specs.declared.reply.Reply.{Reply}
-use Rattle.dd_wire.specs.declared.reply.Reply.TheVariants.{Refused, Peers, Put, Decided}
+use Rattle.dd_wire.specs.declared.reply.Reply.TheVariants.{Refused, Peers, Put, Decided, Valid, InvalidWorld, Unreadable}
 
 abbrev pub whole_number : ℕ → Data
 whole_number n = number (unsigned n)
@@ -26,6 +30,31 @@ abbrev pub verdict_name : Bool → List ℕ
 verdict_name true = codes "yes"
 verdict_name false = codes "no"
 
+-- a world's fault, at a place where it has one
+abbrev pub plain_fault : List ℕ → ℕ → Data
+plain_fault name id = object (member (codes "check") (string (codes "invalid")) (member (codes "fault") (string name)
+    (member (codes "id") (whole_number id) no_members)))
+
+abbrev pub placed_fault : List ℕ → ℕ → ℕ → ℕ → Data
+placed_fault name id index peer = object (member (codes "check") (string (codes "invalid")) (member (codes "fault") (string name)
+    (member (codes "id") (whole_number id) (member (codes "index") (whole_number index) (member (codes "peer") (whole_number peer) no_members)))))
+
+abbrev pub fault_data : ℕ → BadWorld → Data
+fault_data id fault.Shape = plain_fault (codes "shape") id
+fault_data id fault.NotCounter = plain_fault (codes "not_counter") id
+fault_data id (fault.Axiom index peer) = placed_fault (codes "axiom") id index peer
+fault_data id (fault.Into index peer) = placed_fault (codes "into") id index peer
+fault_data id (fault.Onto index peer) = placed_fault (codes "onto") id index peer
+
+-- where a certificate cannot be read
+abbrev pub unread_data : ℕ → Unread → Data
+unread_data id (unread.Field field) = object (member (codes "check") (string (codes "unreadable")) (member (codes "field") (string field.now)
+    (member (codes "id") (whole_number id) no_members)))
+unread_data id (unread.Place place value) = object (member (codes "check") (string (codes "unreadable")) (member (codes "id") (whole_number id)
+    (member (codes "place") (whole_number place) (member (codes "value") (whole_number value) no_members))))
+unread_data id (unread.Text index) = object (member (codes "check") (string (codes "unreadable")) (member (codes "id") (whole_number id)
+    (member (codes "text") (whole_number index) no_members)))
+
 abbrev pub reply_data : Reply → Data
 reply_data (Refused id code n) = object (member (codes "code") (whole_number code) (member (codes "error") (string (error_name code))
     (member (codes "id") (whole_number id) (maybe_number (codes "n") n no_members))))
@@ -34,13 +63,14 @@ reply_data (Put id put version) = object (member (codes "id") (whole_number id) 
     (member (codes "version") (whole_number version) no_members)))
 reply_data (Decided id verdict pin) = object (member (codes "id") (whole_number id) (member (codes "pin") (numbers pin.versions)
     (member (codes "verdict") (string (verdict_name verdict)) no_members)))
+reply_data (Valid id) = object (member (codes "check") (string (codes "valid")) (member (codes "id") (whole_number id) no_members))
+reply_data (InvalidWorld id fault) = fault_data id fault
+reply_data (Unreadable id what) = unread_data id what
 
 abbrev pub reply_text : Reply → List ℕ
 reply_text reply = compact_text (reply_data reply)
 
--- a code that has a name, and a peer that is one
+-- a peer's name is one
 abbrev pub IsPrintable : Reply → Type 0
-IsPrintable (Refused id code n) = IsTrue ((code == line_too_long) || (code == bad_json) || (code == not_built))
-IsPrintable (Peers id count) = ⊤
 IsPrintable (Put id put version) = IsTrue (names_a_thing put)
-IsPrintable (Decided id verdict pin) = ⊤
+IsPrintable reply = ⊤

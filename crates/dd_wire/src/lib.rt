@@ -1,22 +1,34 @@
 //! Request lines and replies: bytes to requests, each refusal with its code, and replies to bytes.
 //!
-//! `request` has the requests, `reply` the replies and `code` the codes of refusals. `line` reads a line, by `form`
-//! with one function a form, by `axiom` for the texts of axioms, and by `members` for the parts of an object.
-//! `print` writes replies.
+//! `line` reads a line and `form` the form of its value; `accept` says which forms are accepted so far, `names` keeps the
+//! peers' names, and `lookup` looks up a form's names and reads its `texts`, to the `request`. `code` has the codes of
+//! refusals, `reply` the replies, and `print` writes them.
 #![tactic(auto)]
 
-mod axiom;
+mod accept;
 mod code;
 mod form;
 mod line;
-mod members;
+mod lookup;
+mod names;
 mod print;
 mod reply;
 mod request;
+mod texts;
 
-pub use code::{BAD_JSON, LINE_TOO_LONG, NOT_BUILT};
+pub use accept::is_accepted_form;
+pub use code::{
+    BAD_CONCEPT, BAD_JSON, BAD_PEERS, BAD_PIN, BAD_SHAPE, CONCEPT_LIMIT, LINE_TOO_LONG, NO_PEERS,
+    NOT_BUILT, PEERS_TWICE, SAME_PEER, SYMBOLS_FULL, TOO_MANY_AXIOMS, TOO_MANY_RULES, UNKNOWN_PEER,
+    UNKNOWN_SOURCE,
+};
 pub use dd_concept::NoMemory;
-pub use line::read_request;
+pub use dd_json::Text;
+pub use dd_peer::Pin;
+pub use form::{Form, RuleForm};
+pub use line::{read_form, read_request};
+pub use lookup::resolve;
+pub use names::Names;
 pub use print::print_reply;
-pub use reply::{Pin, Reply, copy_pin};
-pub use request::{Request, Text, WireErr};
+pub use reply::{BadWorld, Reply, Unread};
+pub use request::{Request, WireErr};

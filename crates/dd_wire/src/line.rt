@@ -1,34 +1,38 @@
 ghost use Rattle.std.specs.Prelude.{◌≡◌, Ok, IfOk, IfErr, option_map};
+ghost use Rattle.std.specs.Option.{option_copied};
 ghost use Rattle.serde_json.specs.View.{view};
-ghost use Rattle.dd_wire.specs.Lines.{json_of, request_in, IsRefused};
-ghost use Rattle.dd_wire.specs.Named.{HasNames};
+ghost use Rattle.dd_wire.specs.Forms.{written_of};
+ghost use Rattle.dd_wire.specs.Lines.{json_of, form_in, IsRefused};
+ghost use Rattle.dd_wire.specs.Requests.{Reads, TestsLine, accepted_form, declared_names, IsNumbered};
 
-use crate::code::{BAD_JSON, NOT_BUILT};
-use crate::form::request;
-use crate::members::FormErr;
+use crate::accept::is_accepted_form;
+use crate::code::{BAD_JSON, BAD_SHAPE, NOT_BUILT};
+use crate::form::{Form, form_at};
+use crate::lookup::resolve;
+use crate::names::Names;
 use crate::request::{Request, WireErr};
 use dd_concept::NoMemory;
+use dd_json::ShapeErr;
+use dd_text::Symbols;
 use serde_json::Value;
 use std::alloc::Global;
 
-/// The request of a line, which is given without its line feed. A line is refused by the first test that it fails:
-/// `BAD_JSON` where it is no JSON value, and `NOT_BUILT` where the value has none of the forms of a request, names
-/// anything but names in an axiom or an ask, or brings rules. `NoMemory` may come on any line.
-#[tactic(auto, unfolding(crate::specs::Lines::request_in))]
-pub fn read_request(alloc: Global, line: &[u8]) -> Result<Request, WireErr>
-    ensures ok { IfOk result (λ r. request_in line.now ≡ Ok r) }
-    ensures refused { IfErr result (λ e. IsRefused e (request_in line.now)) }
-    ensures named { IfOk result HasNames }
+/// The form of a line, which is given without its line feed: `BAD_JSON` where it is no JSON value, and `BAD_SHAPE` where
+/// the value has none of the forms of a request. `NoMemory` may come on any line.
+#[tactic(auto, unfolding(crate::specs::Lines::form_in))]
+pub fn read_form(alloc: Global, line: &[u8]) -> Result<Form, WireErr>
+    ensures ok { IfOk result (λ form. form_in line.now ≡ Ok (written_of form)) }
+    ensures refused { IfErr result (λ e. IsRefused e (form_in line.now)) }
 {
-    let value = match value_of(alloc, line) {
+    let mut value = match value_of(alloc, line) {
         Ok(Some(value)) => value,
         Ok(None) => return Err(refusal(BAD_JSON)),
         Err(_) => return Err(WireErr::NoMemory),
     };
-    match request(alloc, &value) {
-        Ok(request) => Ok(request),
-        Err(FormErr::Shape) => Err(refusal(NOT_BUILT)),
-        Err(FormErr::NoMemory) => Err(WireErr::NoMemory),
+    match form_at(alloc, &mut value) {
+        Ok(form) => Ok(form),
+        Err(ShapeErr::Shape) => Err(refusal(BAD_SHAPE)),
+        Err(ShapeErr::NoMemory) => Err(WireErr::NoMemory),
     }
 }
 
@@ -50,6 +54,33 @@ fn value_of(alloc: Global, line: &[u8]) -> Result<Option<Value>, NoMemory>
                 Ok(None)
             }
         }
+    }
+}
+
+/// The request of a line. It is refused by the first test that fails: those of `read_form`, `NOT_BUILT` where the form is
+/// not accepted so far, and those of `resolve`. After a refusal the symbols are as before.
+pub fn read_request(
+    alloc: Global,
+    symbols: &mut Symbols,
+    names: Option<&Names>,
+    line: &[u8],
+) -> Result<Request, WireErr>
+    ensures reads { Reads (TestsLine (option_copied names.entry) symbols.old line.now) (declared_names (option_copied names.entry)) symbols.old symbols.new result }
+    ensures numbered { IfOk result IsNumbered }
+{
+    let form = read_accepted(alloc, names, line)?;
+    resolve(alloc, symbols, names, form)
+}
+
+fn read_accepted(alloc: Global, names: Option<&Names>, line: &[u8]) -> Result<Form, WireErr>
+    ensures ok { IfOk result (λ form. accepted_form (option_copied names.entry) line.now ≡ Ok (written_of form)) }
+    ensures refused { IfErr result (λ e. IsRefused e (accepted_form (option_copied names.entry) line.now)) }
+{
+    let form = read_form(alloc, line)?;
+    if is_accepted_form(names, &form) {
+        Ok(form)
+    } else {
+        Err(refusal(NOT_BUILT))
     }
 }
 

@@ -1,11 +1,12 @@
 ghost use Rattle.std.specs.Prelude.{◌≡◌, IfOk, IsTrue};
 ghost use Rattle.serde_json.specs.View.{view};
 ghost use Rattle.dd_text.specs.Names.{names_a_thing};
-ghost use Rattle.dd_wire.specs.Replies.{numbers, verdict_name, reply_data, reply_text, IsPrintable};
+ghost use Rattle.dd_wire.specs.Replies.{numbers, verdict_name, placed_fault, fault_data, unread_data, reply_data, reply_text, IsPrintable};
 
 use crate::code::name_of;
-use crate::reply::{Pin, Reply};
+use crate::reply::{BadWorld, Reply, Unread};
 use dd_concept::NoMemory;
+use dd_peer::Pin;
 use serde_json::{Value, json};
 use std::alloc::Global;
 use std::str::from_utf8;
@@ -28,6 +29,9 @@ fn value_of(alloc: Global, reply: &Reply) -> Result<Value, NoMemory>
         Reply::Peers { id, count } => peers(alloc, *id, *count),
         Reply::Put { id, put, version } => stored(alloc, *id, put.as_slice(), *version),
         Reply::Decided { id, yes, pin } => decided(alloc, *id, *yes, pin),
+        Reply::Valid { id } => valid(alloc, *id),
+        Reply::InvalidWorld { id, fault } => invalid(alloc, *id, fault),
+        Reply::Unreadable { id, what } => unreadable(alloc, *id, what),
     }
 }
 
@@ -68,6 +72,46 @@ fn decided(alloc: Global, id: u64, yes: bool, pin: &Pin) -> Result<Value, NoMemo
 {
     let versions = list_of(alloc, pin.versions.as_slice())?;
     json!(in alloc; {"id": id, "pin": versions, "verdict": verdict(yes)})
+}
+
+fn valid(alloc: Global, id: u64) -> Result<Value, NoMemory>
+    ensures { IfOk result (λ value. view value ≡ reply_data (Reply.Valid id)) }
+{
+    json!(in alloc; {"check": "valid", "id": id})
+}
+
+fn invalid(alloc: Global, id: u64, fault: &BadWorld) -> Result<Value, NoMemory>
+    ensures { IfOk result (λ value. view value ≡ fault_data id fault.now) }
+{
+    match fault {
+        BadWorld::Shape => json!(in alloc; {"check": "invalid", "fault": "shape", "id": id}),
+        BadWorld::NotCounter => {
+            json!(in alloc; {"check": "invalid", "fault": "not_counter", "id": id})
+        }
+        BadWorld::Axiom { index, peer } => at_place(alloc, id, "axiom", *index, *peer),
+        BadWorld::Into { index, peer } => at_place(alloc, id, "into", *index, *peer),
+        BadWorld::Onto { index, peer } => at_place(alloc, id, "onto", *index, *peer),
+    }
+}
+
+fn at_place(alloc: Global, id: u64, fault: &str, index: u32, peer: u32) -> Result<Value, NoMemory>
+    ensures { IfOk result (λ value. view value ≡ placed_fault fault.now id index peer) }
+{
+    json!(in alloc; {"check": "invalid", "fault": fault, "id": id, "index": index, "peer": peer})
+}
+
+fn unreadable(alloc: Global, id: u64, what: &Unread) -> Result<Value, NoMemory>
+    ensures { IfOk result (λ value. view value ≡ unread_data id what.now) }
+{
+    match what {
+        Unread::Field(field) => {
+            json!(in alloc; {"check": "unreadable", "field": *field, "id": id})
+        }
+        Unread::Place { place, value } => {
+            json!(in alloc; {"check": "unreadable", "id": id, "place": *place, "value": *value})
+        }
+        Unread::Text(index) => json!(in alloc; {"check": "unreadable", "id": id, "text": *index}),
+    }
 }
 
 fn verdict(yes: bool) -> &'static str

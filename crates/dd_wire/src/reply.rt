@@ -1,13 +1,26 @@
-ghost use Rattle.std.specs.Prelude.{◌≡◌, IfOk};
+use dd_concept::Items;
+use dd_json::Text;
+use dd_peer::Pin;
 
-use crate::request::Text;
-use dd_concept::{Items, NoMemory};
-use std::alloc::Global;
-
-/// One version number per peer, in the order in which the peers were declared.
+/// Why a world is no countermodel. Peers are numbered in declared order, and axioms and rules in their lists, from 0.
 #[derive(Debug, Drop)]
-pub struct Pin {
-    pub versions: Items<u32>,
+pub enum BadWorld {
+    Shape,
+    NotCounter,
+    Axiom { index: u32, peer: u32 },
+    Into { index: u32, peer: u32 },
+    Onto { index: u32, peer: u32 },
+}
+
+/// Where a certificate cannot be read.
+#[derive(Debug, Drop)]
+pub enum Unread {
+    /// The member of the certificate that has another form.
+    Field(&'static str),
+    /// The number that is too large, and its place among all numbers but `format`, from 0.
+    Place { place: u32, value: u64 },
+    /// The place of the first text that is none, among all texts of the certificate, from 0.
+    Text(u32),
 }
 
 /// A reply. `id` is the number of its request, from 1 on.
@@ -17,12 +30,7 @@ pub enum Reply {
     Peers { id: u64, count: u32 },
     Put { id: u64, put: Text, version: u32 },
     Decided { id: u64, yes: bool, pin: Pin },
-}
-
-/// A copy of a pin.
-pub fn copy_pin(alloc: Global, pin: &Pin) -> Result<Pin, NoMemory>
-    ensures { IfOk result (λ p. p ≡ pin.now) }
-{
-    let versions = Items::from_slice(alloc, pin.versions.as_slice())?;
-    Ok(Pin { versions })
+    Valid { id: u64 },
+    InvalidWorld { id: u64, fault: BadWorld },
+    Unreadable { id: u64, what: Unread },
 }

@@ -1,7 +1,8 @@
 -- The index of a version, as its pairs come.
-use Rattle.std.proofs.Common.{inl, inr, ◌≡◌, ℕ, ◌<◌, ◌≤◌, List, [], ◌∷◌, ◌++◌, length, get_or, Bool, true, false, cond, nat_eq, nat_lt, All, refl, ap, sym, ◌∙◌, subst, set}
-use Rattle.std.proofs.lemmas.List.{append-nil, get_or-set_same, get_or-set_other, map-append, get_or-replicate, get_or_past, length-replicate}
-use Rattle.std.proofs.lemmas.List.Elements.{filter-append, All-head, All-tail, All-nil, All-cons}
+use Rattle.std.proofs.Common.{inl, inr, ◌≡◌, ℕ, ◌+◌, ◌<◌, ◌≤◌, List, [], ◌∷◌, ◌++◌, length, take, get_or, Bool, true, false, cond, nat_eq, nat_lt, All, refl, ap, sym, ◌∙◌, subst, set, arith, add-one}
+use Rattle.std.proofs.Math.Seq.{take-suc}
+use Rattle.std.proofs.lemmas.List.{append-nil, get_or-set_same, get_or-set_other, map-append, get_or-replicate, get_or_past, length-replicate, take_all}
+use Rattle.std.proofs.lemmas.List.Elements.{filter-append, All-head, All-tail, All-nil, All-cons, All-append}
 use Rattle.std.proofs.lemmas.Bool.{cases_eq, cases_lt, eq-eqb, ne_eqb, and_from, and_parts, lt-ltb, ltb-true}
 use Rattle.std.specs.Prelude.{map, filter, replicate}
 use Rattle.drago.specs.Above.{rights_of, are_below}
@@ -58,3 +59,22 @@ rights_of-below n (p ∷ ps) a below =
         → All (λ m. m < n) (map (λ (q : ℕ × ℕ). q.1) (cond b (p ∷ filter (λ (q : ℕ × ℕ). nat_eq q.0 a) ps) (filter (λ (q : ℕ × ℕ). nat_eq q.0 a) ps)))
     by_test true h rest = All-cons (λ m. m < n) p.1 (rights_of ps a) h rest
     by_test false h rest = rest
+
+-- ---- the largest name
+
+-- both names of a pair are below a bound
+abbrev pub Under : ℕ → ℕ × ℕ → Type 0
+Under n p = (p.0 < n) × (p.1 < n)
+
+under_more : (n m : ℕ) (ps : List (ℕ × ℕ)) → n ≤ m → All (Under n) ps → All (Under m) ps
+under_more n m ps le all = λ k d h. let both = all k d h in (omega (arith, le, both.0), omega (arith, le, both.1))
+
+pub bound_step : (n m : ℕ) (ps : List (ℕ × ℕ)) (k : ℕ) (d : ℕ × ℕ) → k < length ps → All (Under n) (take k ps) → n ≤ m
+    → (get_or ps k d).0 < m → (get_or ps k d).1 < m → All (Under m) (take (k + 1) ps)
+bound_step n m ps k d within all le left right =
+    subst (λ (xs : List (ℕ × ℕ)). All (Under m) xs) (sym (ap (λ (j : ℕ). take j ps) (add-one k) ∙ take-suc ps k d within))
+    (All-append (Under m) (take k ps) (get_or ps k d ∷ []) (under_more n m (take k ps) le all)
+    (All-cons (Under m) (get_or ps k d) [] (left, right) (All-nil (Under m))))
+
+pub bound_end : (n k : ℕ) (ps : List (ℕ × ℕ)) → length ps ≤ k → All (Under n) (take k ps) → All (Under n) ps
+bound_end n k ps past all = subst (λ (xs : List (ℕ × ℕ)). All (Under n) xs) (take_all k ps past) all

@@ -1,10 +1,14 @@
 pub mod Index
 pub mod Reached
 pub mod Least
+pub mod Plain
 pub mod Verdicts
-pub mod Numbering
-pub mod Requests
-pub mod Sessions
 pub mod Turning
+pub mod Only
+pub mod Requests
+pub mod Certs
+pub mod Judging
 pub mod Runs
+pub mod Sessions
+pub mod Accepting
 pub mod GoesOn

@@ -1,168 +1,133 @@
--- What the requests do to a state with one peer at the most.
-use Rattle.std.proofs.Common.{inl, inr, ◌≡◌, ℕ, List, [], ◌∷◌, ◌&&◌, ◌||◌, length, Bool, true, false, cond, not, nat_eq, refl, ap, sym, ◌∙◌, subst, Option, None, Some, Ok, Err}
-use Rattle.std.proofs.lemmas.Bool.{or_cases, and_parts, and_from, and_right}
-use Rattle.std.proofs.lemmas.Slice.Eq.{bytes_eq-Decides}
-use Rattle.std.specs.Prelude.{map, nat_le, is_some}
-use Rattle.std.specs.Option.{option_to_list}
-use Rattle.std.specs.Str.{bytes_eq}
-use Rattle.dd_concept.specs.declared.concept.Axiom.{Axiom}
-use Rattle.dd_text.specs.Names.{names_a_thing}
-use Rattle.dd_text.specs.Symbols.{SymbolLists, number_of}
-use Rattle.dd_wire.specs.Refusal.{Tested, ◌>>=◌, demand, refused, not_built}
-use Rattle.dd_wire.specs.declared.reply.Pin.{Pin}
+-- What a request does to a state is an answer to its form.
+use Rattle.std.proofs.Common.{◌≡◌, ℕ, List, [], ◌∷◌, ◌++◌, length, Bool, true, false, cond, nat_eq, refl, ap, sym, ◌∙◌, subst, Option, None, Some, Ok, Err}
+use Rattle.std.proofs.lemmas.Bool.{eq-eqb}
+use Rattle.std.specs.Prelude.{slice_get, map, ⊤}
+use Rattle.serde_json.specs.Data.{Data}
+use Rattle.dd_text.specs.Grammar.{Term}
+use Rattle.dd_text.specs.Symbols.{SymbolLists, number_of, has_text}
+use Rattle.dd_text.proofs.Numbering.{slice_get-number_of}
+use Rattle.dd_peer.specs.Refusals.{refusal_of}
+use Rattle.dd_peer.specs.declared.check.PeerErr.{PeerErr}
+use Rattle.dd_peer.specs.declared.version.PeerVersion.{PeerVersion}
+use Rattle.dd_wire.specs.Refusal.{Refusal, Tested, ◌>>=◌, demand, bad_pin}
+use Rattle.dd_wire.specs.Requests.{IsRequest, query_of, version_of}
+use Rattle.dd_wire.specs.Texts.{Parsed, RuleTree, peers, put, ask, check, versions}
 use Rattle.dd_wire.specs.declared.reply.Reply.{Reply}
 use Rattle.dd_wire.specs.declared.reply.Reply.TheVariants as reply
 use Rattle.dd_wire.specs.declared.request.Request.{Request}
-use Rattle.dd_wire.specs.declared.request.Request.TheVariants.{Peers, Put, Ask}
-use Rattle.drago.specs.World.{Job, Answers}
-use Rattle.drago.specs.Above.{axiom_of_pair, version_of_pairs}
-use Rattle.drago.specs.History.{Accepted, pin_of, pinned_by, last_version}
-use Rattle.drago.specs.Numbers.{pairs_in}
-use Rattle.drago.specs.Session.{State, Kept, finished, asked, with_names, names_of, has_room, axiom_between, peer_number, is_declared, is_first_put, is_one_name, is_built, placed, accepts, reads, is_yes, Finished, Answered, with_ask, job_of}
-use Rattle.drago.specs.Verdict.{pairs_job, verdict_of, Decides}
+use Rattle.dd_wire.specs.declared.request.Request.TheVariants as request
+use Rattle.dd_cert.specs.Certificates.{cert_in}
+use Rattle.drago.specs.Does.{Does, PutBy, CheckBy}
+use Rattle.drago.specs.History.{Accepted, last_version, pin_of, is_pin}
+use Rattle.drago.specs.Session.{State, Kept, finished, asked, judged, names_of, may_be_version, admits, admitted, does, reads, with_put, job_at, Finished, Answered}
 
--- the tests of what a state accepts, as they pass or fail
-passing : Request → Bool → Tested Request
-passing r b = demand not_built b >>= (λ built. Ok r)
+-- a request whose last tests pass does what it does, and else it is refused
+answers-ok : (s new : State) (id : ℕ) (y : SymbolLists) (p : Parsed) (kept : Kept) (given : Reply) → admits s y p ≡ Ok true → does s id y p ≡ (new, kept) → Finished kept given
+    → Answered s id (admitted s (record { request = p; symbols = y })) new given
+answers-ok s new id y p kept given passes done finishes =
+    (kept, ap (λ (t : Tested Bool). reads s id (t >>= (λ ok. Ok (record { request = p; symbols = y })))) passes ∙ done, finishes)
 
-pub placed-no : (s : State) (r : Request) → is_built s r ≡ false → placed s r ≡ Err (refused not_built)
-unfolding passing
-placed-no s r h = ap (passing r) h
-
-pub placed-yes : (s : State) (r : Request) → is_built s r ≡ true → placed s r ≡ Ok r
-unfolding passing
-placed-yes s r h = ap (passing r) h
-
--- what is not built is refused, and changes nothing
-pub answered-no : (s : State) (id : ℕ) (r : Request) (given : Reply) → is_built s r ≡ false → given ≡ reply.Refused id 17 None → Answered s id (placed s r) s given
-answered-no s id r given h e = (finished (reply.Refused id 17 None), ap (reads s id) (placed-no s r h), e)
-
--- what is built does what it asks for
-pub answered-yes : (s : State) (id : ℕ) (r : Request) (new : State) (kept : Kept) (given : Reply) → is_built s r ≡ true
-    → accepts s id r ≡ (new, kept) → Finished kept given → Answered s id (placed s r) new given
-answered-yes s id r new kept given h does done = (kept, ap (reads s id) (placed-yes s r h) ∙ does, done)
-
--- ---- declaring a peer
-
-pub not_declared_twice : (name : List ℕ) (s : State) (names : List (List ℕ)) → s.peers ≡ name ∷ [] → is_built s (Peers names) ≡ false
-not_declared_twice name s names e = ap (λ (ps : List (List ℕ)). (nat_eq (length ps) 0) && is_one_name names) e
-
-pub not_one_name : (s : State) (names : List (List ℕ)) → is_one_name names ≡ false → is_built s (Peers names) ≡ false
-not_one_name s names h = and_right (nat_eq (length s.peers) 0) (is_one_name names) h
-
-pub declares : (s : State) (id : ℕ) (names : List (List ℕ)) (name : List ℕ) (given : Reply) → s.peers ≡ [] → names ≡ name ∷ [] → names_a_thing name ≡ true
-    → given ≡ reply.Peers id 1 → Answered s id (placed s (Peers names)) (record s { peers = name ∷ [] }) given
-declares s id names name given none only named e =
-    subst (λ (ns : List (List ℕ)). Answered s id (placed s (Peers ns)) (record s { peers = name ∷ [] }) given) (sym only)
-    (answered-yes s id (Peers (name ∷ [])) (record s { peers = name ∷ [] }) (finished (reply.Peers id 1)) given
-    (ap (λ (ps : List (List ℕ)). (nat_eq (length ps) 0) && names_a_thing name) none ∙ named) refl e)
-
--- ---- the declared peer
-
-pub number_of-declared : (name text : List ℕ) → (bytes_eq text name || false) ≡ true → number_of (name ∷ []) text ≡ 0
-number_of-declared name text h = elim (or_cases (bytes_eq text name) false h) [
-  | inl e ↦ ap (λ b. cond (not b) 1 0) e
-  | inr e ↦ absurd (off e)
-]
-  where
-    off : false ≡ true → ⊥
-    off e = cc e
-
-pub declared-is : (name text : List ℕ) → (bytes_eq text name || false) ≡ true → text ≡ name
-declared-is name text h = elim (or_cases (bytes_eq text name) false h) [
-  | inl e ↦ (bytes_eq-Decides text name).0 e
-  | inr e ↦ absurd (off e)
-]
-  where
-    off : false ≡ true → ⊥
-    off e = cc e
+answers-err : (s : State) (id : ℕ) (y : SymbolLists) (p : Parsed) (e : Refusal) (given : Reply) → admits s y p ≡ Err e → given ≡ reply.Refused id e.code e.n
+    → Answered s id (admitted s (record { request = p; symbols = y })) s given
+answers-err s id y p e given fails same =
+    (finished (reply.Refused id e.code e.n), ap (λ (t : Tested Bool). reads s id (t >>= (λ ok. Ok (record { request = p; symbols = y })))) fails, same)
 
 -- ---- a put
 
-axioms_of_pairs : (s : SymbolLists) (us : List (List ℕ × List ℕ)) → map axiom_of_pair (pairs_in s.names us) ≡ map (axiom_between s) us
-axioms_of_pairs s [] = refl
-axioms_of_pairs s (a ∷ us) = ap (λ (more : List Axiom). axiom_between s a ∷ more) (axioms_of_pairs s us)
-
--- the state with a first version of the only peer
-abbrev pub with_first : List ℕ → SymbolLists → List (ℕ × ℕ) → State
-with_first name symbols pairs = record { peers = name ∷ []; symbols = symbols; history = record { peer = 0; version = version_of_pairs pairs } ∷ [] }
-
-pub puts : (name : List ℕ) (old : SymbolLists) (id : ℕ) (peer : List ℕ) (us : List (List ℕ × List ℕ)) (new : SymbolLists) (pairs : List (ℕ × ℕ)) (given : Reply)
-    → let s : State = record { peers = name ∷ []; symbols = old; history = [] } in
-    is_first_put s peer us ≡ true → has_room old (names_of us) ≡ true → new ≡ with_names old (names_of us) → pairs ≡ pairs_in new.names us
-    → given ≡ reply.Put id peer 1 → Answered s id (placed s (Put peer us)) (with_first name new pairs) given
-puts name old id peer us new pairs given first room grown numbered e =
-    let s : State = record { peers = name ∷ []; symbols = old; history = [] } in
-    let declared = (and_parts (is_declared s peer) (nat_le (length us) 2000) first).0 in
-    let zero : 0 ≡ peer_number s peer = sym (number_of-declared name peer declared) in
-    let axioms : map (axiom_between (with_names old (names_of us))) us ≡ map axiom_of_pair pairs
-    = sym (ap (map axiom_of_pair) (numbered ∙ ap (λ (r : SymbolLists). pairs_in r.names us) grown) ∙ axioms_of_pairs (with_names old (names_of us)) us) in
-    answered-yes s id (Put peer us) (with_first name new pairs) (finished (reply.Put id peer 1)) given
-    (and_from (is_first_put s peer us) (has_room old (names_of us)) first room)
-    (subst (λ (n : ℕ). put_at n ≡ (with_first name new pairs, finished (reply.Put id peer 1))) zero
-    (same_put axioms (sym grown)))
-    e
+-- a first version has the number 1
+first_version : (n : ℕ) (v : PeerVersion) → last_version n ([] ++ record { peer = n; version = v } ∷ []) ≡ 1
+first_version n v = counted (nat_eq n n) (eq-eqb n n refl)
   where
-    put_at : ℕ → State × Kept
-    put_at n = let new' : State = record { peers = name ∷ []; symbols = with_names old (names_of us); history = record { peer = n; version = record { axioms = map (axiom_between (with_names old (names_of us))) us } } ∷ [] } in
-        (new', finished (reply.Put id peer (last_version n new'.history)))
+    counted : (b : Bool) → b ≡ true → length (map (λ (a : Accepted). a.version) (cond b (record { peer = n; version = v } ∷ []) [])) ≡ 1
+    counted true e = refl
+    counted false e = absurd (off e)
+      where
+        off : false ≡ true → ⊥
+        off e = cc e
 
-    made : SymbolLists → List Axiom → State × Kept
-    made r more = (record { peers = name ∷ []; symbols = r; history = record { peer = 0; version = record { axioms = more } } ∷ [] }, finished (reply.Put id peer 1))
-
-    same_put : map (axiom_between (with_names old (names_of us))) us ≡ map axiom_of_pair pairs → with_names old (names_of us) ≡ new
-        → put_at 0 ≡ (with_first name new pairs, finished (reply.Put id peer 1))
-    same_put axioms grown =
-        ap (λ (r : SymbolLists). made r (map (axiom_between (with_names old (names_of us))) us)) grown ∙ ap (made new) axioms
-
--- ---- an ask
-
-pub is_yes-verdict_of : (b : Bool) → is_yes (verdict_of b) ≡ b
-is_yes-verdict_of true = refl
-is_yes-verdict_of false = refl
-
-pub declared_name : (peer : Option (List ℕ)) → is_some peer ≡ true → (name : List ℕ) × (option_to_list peer ≡ name ∷ [])
-declared_name (Some name) h = (name, refl)
-declared_name None h = absurd (off h)
+puts : (s new : State) (id : ℕ) (y : SymbolLists) (peer : List ℕ) (as' : List (Term × Term)) (is' os : List RuleTree) (given : Reply)
+    → s.history ≡ [] → has_text (names_of s) peer ≡ true
+    → (o : Option PeerErr) → refusal_of (version_of (names_of s) y as' is' os) (length (names_of s)) (number_of (names_of s) peer) ≡ o
+    → PutBy o s id y (number_of (names_of s) peer) (version_of (names_of s) y as' is' os) new given
+    → Answered s id (admitted s (record { request = put peer as' is' os; symbols = y })) new given
+puts s new id y peer as' is' os given first declared (Some e) is by =
+    subst (λ (t : State). Answered s id (admitted s (record { request = put peer as' is' os; symbols = y })) t given) (sym by.0)
+    (answers-err s id y (put peer as' is' os) _ given (ap may_be_version is) by.1)
+puts s new id y peer as' is' os given first declared None is by =
+    let n = number_of (names_of s) peer in
+    let v = version_of (names_of s) y as' is' os in
+    let same : by.1 ≡ peer = name_is by.1 (by.2) (slice_get-number_of (names_of s) peer declared) in
+    let version : last_version n (s.history ++ record { peer = n; version = v } ∷ []) ≡ 1
+    = ap (λ (h : List Accepted). last_version n (h ++ record { peer = n; version = v } ∷ [])) first ∙ first_version n v in
+    subst (λ (t : State). Answered s id (admitted s (record { request = put peer as' is' os; symbols = y })) t given) (sym by.0)
+    (answers-ok s (with_put s y n v) id y (put peer as' is' os) (finished (reply.Put id peer (last_version n (with_put s y n v).history))) given (ap may_be_version is) refl
+    (by.3 ∙ ap (λ (t : List ℕ). reply.Put id t 1) same ∙ ap (λ (k : ℕ). reply.Put id peer k) (sym version)))
   where
-    off : false ≡ true → ⊥
-    off e = cc e
+    name_is : (t : List ℕ) → slice_get (names_of s) (number_of (names_of s) peer) ≡ Some t → slice_get (names_of s) (number_of (names_of s) peer) ≡ Some peer → t ≡ peer
+    name_is t e f = only (sym e ∙ f)
+      where
+        only : Some t ≡ Some peer → t ≡ peer
+        only g = cc g
 
--- the state with the only peer, before or after its put
-abbrev pub with_peer : List ℕ → SymbolLists → List Accepted → State
-with_peer name symbols history = record { peers = name ∷ []; symbols = symbols; history = history }
+-- ---- a check
 
--- the versions pinned at a history
-abbrev pub IsPinned : List ℕ → List Accepted → List (ℕ × ℕ) → Type 0
-IsPinned name history pairs = pinned_by (pin_of (name ∷ []) history) history ≡ version_of_pairs pairs ∷ []
+checks : (s : State) (id : ℕ) (y : SymbolLists) (peer : List ℕ) (l r : Term) (pin : List ℕ) (cert : Data) (given : Reply)
+    → (b : Bool) → is_pin (names_of s) pin s.history ≡ b
+    → CheckBy b id (job_at s pin (query_of (names_of s) y peer l r)) y cert given
+    → Answered s id (admitted s (record { request = check peer l r pin cert; symbols = y })) s given
+checks s id y peer l r pin cert given true is by =
+    answers-ok s s id y (check peer l r pin cert) (judged id (job_at s pin (query_of (names_of s) y peer l r)) (cert_in y cert)) given (ap (demand bad_pin) is) refl by
+checks s id y peer l r pin cert given false is by =
+    answers-err s id y (check peer l r pin cert) _ given (ap (demand bad_pin) is) by
 
-pub asks : (name : List ℕ) (old new : SymbolLists) (history : List Accepted) (pairs : List (ℕ × ℕ)) (id : ℕ) (peer left right : List ℕ)
-    → (pair : ℕ × ℕ) (verdict : Bool) (pin : Pin) (given : Reply)
-    → let s : State = with_peer name old history in
-    IsPinned name history pairs → is_declared s peer ≡ true → has_room old (left ∷ right ∷ []) ≡ true → new ≡ with_names old (left ∷ right ∷ [])
-    → pair ≡ (number_of new.names left, number_of new.names right) → Decides pairs pair.0 pair.1 verdict
-    → pin.versions ≡ pin_of (name ∷ []) history → given ≡ reply.Decided id verdict pin
-    → Answered s id (placed s (Ask peer left right)) (with_peer name new history) given
-asks name old new history pairs id peer left right pair verdict pin given pinned declared room grown numbers decides pins e =
-    let s : State = with_peer name old history in
-    let zero : peer_number s peer ≡ 0 = number_of-declared name peer declared in
-    let now : with_peer name new history ≡ with_ask s left right = ap (λ (r : SymbolLists). with_peer name r history) grown in
-    let job : pairs_job pairs pair.0 pair.1 ≡ job_of (with_ask s left right) (peer_number s peer) left right
-    = cc (pinned, zero, numbers, grown) in
-    answered-yes s id (Ask peer left right) (with_peer name new history) (asked id (pin_of (name ∷ []) history) (job_of (with_ask s left right) (peer_number s peer) left right)) given
-    (and_from (is_declared s peer) (has_room old (left ∷ right ∷ [])) declared room)
-    (ap (λ (t : State). let r : State × Kept = (t, asked id (pin_of (name ∷ []) history) (job_of (with_ask s left right) (peer_number s peer) left right)) in r) (sym now)) (
-      verdict_of verdict,
-      subst (λ (j : Job). Answers j (verdict_of verdict)) job decides,
-      e ∙ ap (λ (b : Bool). reply.Decided id b pin) (sym (is_yes-verdict_of verdict)) ∙ ap (λ (vs : List ℕ). replied vs) pins,
-    )
+-- ---- each request
+
+-- a state, and what is kept of a request
+abbrev pub paired : State → Kept → State × Kept
+paired s k = (s, k)
+
+-- what the tests before have made sure of
+abbrev pub IsReady : State → SymbolLists → Parsed → Type 0
+IsReady s y (peers ns) = y ≡ s.symbols
+IsReady s y (put peer axioms into onto) = (s.history ≡ []) × (has_text (names_of s) peer ≡ true)
+IsReady s y (ask peer l r expansions verdicts) = ⊤
+IsReady s y (check peer l r pin cert) = ⊤
+IsReady s y versions = y ≡ s.symbols
+
+pub does_answered : (s new : State) (id : ℕ) (y : SymbolLists) (p : Parsed) (r : Request) (given : Reply)
+    → IsRequest (names_of s) y p r → IsReady s y p → Does s id y r new given
+    → Answered s id (admitted s (record { request = p; symbols = y })) new given
+does_answered s new id y (peers ns) r given is ready by = at (subst (λ (q : Request). Does s id y q new given) is by)
   where
-    replied : List ℕ → Reply
-    replied vs = reply.Decided id (is_yes (verdict_of verdict)) (record { versions = vs })
+    at : Does s id y (request.Peers ns) new given → Answered s id (admitted s (record { request = peers ns; symbols = y })) new given
+    at by = answers-ok s new id y (peers ns) (finished (reply.Peers id (length ns))) given refl (same (by.0 ∙ ap (λ (z : SymbolLists). with_peers z) ready)) by.1
+      where
+        with_peers : SymbolLists → State
+        with_peers z = record { peers = Some ns; symbols = z; history = s.history }
 
-pub not_declared : (peer : Option (List ℕ)) → is_some peer ≡ false → option_to_list peer ≡ []
-not_declared None h = refl
-not_declared (Some name) h = absurd (off h)
+        same : new ≡ record s { peers = Some ns } → paired (record s { peers = Some ns }) (finished (reply.Peers id (length ns))) ≡ paired new (finished (reply.Peers id (length ns)))
+        same e = sym (ap (λ (t : State). paired t (finished (reply.Peers id (length ns)))) e)
+does_answered s new id y (put peer as' is' os) r given is ready by =
+    puts s new id y peer as' is' os given ready.0 ready.1 _ refl (subst (λ (q : Request). Does s id y q new given) is by)
+does_answered s new id y (ask peer l t expansions verdicts) r given is ready by = at (subst (λ (q : Request). Does s id y q new given) is by)
   where
-    off : true ≡ false → ⊥
-    off e = cc e
+    at : Does s id y (request.Ask (query_of (names_of s) y peer l t) expansions verdicts) new given
+        → Answered s id (admitted s (record { request = ask peer l t expansions verdicts; symbols = y })) new given
+    at by = answers-ok s new id y (ask peer l t expansions verdicts) (asked id (pin_of (names_of s) s.history) (job_at s (pin_of (names_of s) s.history) (query_of (names_of s) y peer l t))) given refl
+        (sym (ap (λ (u : State). let both : State × Kept = (u, asked id (pin_of (names_of s) s.history) (job_at s (pin_of (names_of s) s.history) (query_of (names_of s) y peer l t))) in both) by.0))
+        (by.1, by.2, by.3)
+does_answered s new id y (check peer l t pin cert) r given is ready by = at (subst (λ (q : Request). Does s id y q new given) is.2 by)
+  where
+    at : Does s id y (request.Check (query_of (names_of s) y peer l t) (record { versions = pin }) is.0) new given
+        → Answered s id (admitted s (record { request = check peer l t pin cert; symbols = y })) new given
+    at by = subst (λ (u : State). Answered s id (admitted s (record { request = check peer l t pin cert; symbols = y })) u given) (sym by.0)
+        (checks s id y peer l t pin cert given (is_pin (names_of s) pin s.history) refl
+        (subst (λ (d : Data). CheckBy (is_pin (names_of s) pin s.history) id (job_at s pin (query_of (names_of s) y peer l t)) y d given) is.1 by.1))
+does_answered s new id y versions r given is ready by = at (subst (λ (q : Request). Does s id y q new given) is by)
+  where
+    with_symbols : SymbolLists → State
+    with_symbols z = record { peers = s.peers; symbols = z; history = s.history }
+
+    at : Does s id y request.Versions new given → Answered s id (admitted s (record { request = versions; symbols = y })) new given
+    at by = answers-ok s new id y versions (finished (reply.Refused id 17 None)) given refl
+        (sym (ap (λ (u : State). let both : State × Kept = (u, finished (reply.Refused id 17 None)) in both) (by.0 ∙ ap with_symbols ready))) by.1

@@ -1,83 +1,80 @@
--- What the requests do to a session in memory.
-use Rattle.std.proofs.Common.{◌≡◌, ℕ, List, [], ◌∷◌, Bool, true, false, ◌&&◌, length, refl, sym, subst, Option, None, Some}
-use Rattle.std.proofs.lemmas.Bool.{and_parts, and_left, and_right}
-use Rattle.std.specs.Prelude.{IsSome, nat_le}
-use Rattle.std.specs.Option.{option_to_list, ForSome}
-use Rattle.std.specs.List.{list_any}
-use Rattle.std.specs.Str.{bytes_eq}
+-- What a session in memory stands for, and what its answers do to that state.
+use Rattle.std.proofs.Common.{◌≡◌, ℕ, ◌<◌, List, Bool, true, false, ◌&&◌, not, length, All, refl, ap, sym, ◌∙◌, subst, Option, None, Some}
+use Rattle.std.proofs.lemmas.Bool.{and_parts}
+use Rattle.std.specs.Prelude.{is_some, IsSome}
+use Rattle.dd_concept.specs.declared.concept.Concept.TheVariants.{Name}
 use Rattle.dd_text.specs.Names.{names_a_thing}
 use Rattle.dd_text.specs.Symbols.{SymbolLists, number_of}
-use Rattle.dd_wire.specs.declared.reply.Pin.{Pin}
-use Rattle.dd_wire.specs.declared.reply.Reply.{Reply}
+use Rattle.dd_peer.specs.declared.version.Pin.{Pin}
+use Rattle.dd_peer.specs.declared.version.Pinned.{Pinned}
+use Rattle.dd_peer.specs.declared.version.PeerVersion.{PeerVersion}
+use Rattle.dd_peer.specs.declared.version.Query.{Query}
+use Rattle.dd_wire.specs.Accepted.{is_accepted, is_declared}
+use Rattle.dd_wire.specs.Forms as form
+use Rattle.dd_wire.specs.Requests.{declared_names}
 use Rattle.dd_wire.specs.declared.reply.Reply.TheVariants as reply
-use Rattle.dd_wire.specs.declared.request.Request.TheVariants.{Put, Ask}
+use Rattle.dd_wire.specs.declared.request.Request.TheVariants as request
+use Rattle.drago.specs.declared.rows.Index.{Index}
 use Rattle.drago.specs.declared.version.Version.{Version}
-use Rattle.drago.specs.History.{pin_of}
-use Rattle.drago.specs.Numbers.{pairs_in}
-use Rattle.drago.specs.Session.{State, with_names, names_of, has_room, is_declared, is_first_put, placed, Answered}
-use Rattle.drago.specs.SessionState.{pairs_of, history_of}
-use Rattle.drago.specs.Verdict.{Decides}
-use Rattle.drago.proofs.Requests.{answered-no, puts, asks, declared-is}
+use Rattle.drago.specs.Above.{is_plain, row_of}
+use Rattle.drago.specs.Answers.{Job, Answers}
+use Rattle.drago.specs.Does.{Does, AsksNames}
+use Rattle.drago.specs.History.{Accepted, present_version, pin_of}
+use Rattle.drago.specs.IsIndexed.{IsIndexed}
+use Rattle.drago.specs.Session.{is_yes, job_at}
+use Rattle.drago.specs.SessionState.{history_of}
+use Rattle.drago.specs.Verdict.{names_query, verdict_of, job_under, Decides}
+use Rattle.drago.proofs.Index.{rights_of-below}
+use Rattle.drago.proofs.Only.{IsOne, declared_in, declared_some, single, only_number, pinned_only}
+use Rattle.drago.proofs.Plain.{plain_pairs}
 
--- the state of a session with these parts
-abbrev pub state_with : Option (List ℕ) → SymbolLists → Option Version → State
-state_with p symbols put = record { peers = option_to_list p; symbols = symbols; history = history_of put }
+-- ---- the present version
 
-off : false ≡ true → ⊥
-off e = cc e
+-- the version has an index exactly where it is plain
+pub plain_index : (v : Version) (b : Bool) → b ≡ is_some v.index → b ≡ is_plain v.version
+plain_index v b h = by_index v.index refl h
+  where
+    by_index : (o : Option Index) → v.index ≡ o → b ≡ is_some o → b ≡ is_plain v.version
+    by_index None is e = e ∙ sym (v.other is)
+    by_index (Some i) is e = e ∙ sym (ap is_plain (v.plain i is) ∙ plain_pairs i.pairs)
 
--- a declared peer is a name
-pub declared-names : (p : Option (List ℕ)) (peer : List ℕ) → ForSome p (λ name. names_a_thing name ≡ true) → list_any (bytes_eq peer) (option_to_list p) ≡ true
-    → names_a_thing peer ≡ true
-declared-names None peer named h = absurd (off h)
-declared-names (Some name) peer named h = subst (λ t. names_a_thing t ≡ true) (sym (declared-is name peer h)) (named name refl)
+pub plain_put : (put : Option Version) (v : Version) (b : Bool) → put ≡ Some v → b ≡ is_some v.index → b ≡ is_plain (present_version 0 (history_of put))
+plain_put put v b is h = subst (λ (o : Option Version). b ≡ is_plain (present_version 0 (history_of o))) (sym is) (plain_index v b h)
 
-pub declared-some : (p : Option (List ℕ)) (peer : List ℕ) → list_any (bytes_eq peer) (option_to_list p) ≡ true → IsSome p
-declared-some None peer h = absurd (off h)
-declared-some (Some name) peer h = refl
+-- the only peer is asked
+pub open_ask : (o : Option (List (List ℕ))) (peer left right : List ℕ) (e v : Option ℕ) (h : List Accepted) (b : Bool) → IsOne o → is_accepted o (form.ask peer left right e v) ≡ true
+    → b ≡ is_plain (present_version 0 h) → b ≡ is_plain (present_version (number_of (declared_names o) peer) h)
+open_ask o peer left right e v h b one accepted is =
+    subst (λ (n : ℕ). b ≡ is_plain (present_version n h)) (sym (only_number (declared_names o) peer (single o (declared_some o peer declared) one) (declared_in o peer declared))) is
+  where
+    declared : is_declared o peer ≡ true
+    declared = (and_parts (is_declared o peer) (names_a_thing left)
+        (and_parts (is_declared o peer && names_a_thing left) (names_a_thing right)
+        (and_parts (is_declared o peer && names_a_thing left && names_a_thing right) (not (is_some e))
+        (and_parts (is_declared o peer && names_a_thing left && names_a_thing right && not (is_some e)) (not (is_some v)) accepted).0).0).0).0
 
-pub not_first : (p : Option (List ℕ)) (old : SymbolLists) (put : Option Version) (id : ℕ) (peer : List ℕ) (us : List (List ℕ × List ℕ)) (given : Reply)
-    → is_first_put (state_with p old put) peer us ≡ false → given ≡ reply.Refused id 17 None
-    → Answered (state_with p old put) id (placed (state_with p old put) (Put peer us)) (state_with p old put) given
-not_first p old put id peer us given h e = let s = state_with p old put in
-    answered-no s id (Put peer us) given (and_left (is_first_put s peer us) (has_room old (names_of us)) h) e
+-- ---- asks
 
-pub no_room_to_put : (p : Option (List ℕ)) (old : SymbolLists) (put : Option Version) (id : ℕ) (peer : List ℕ) (us : List (List ℕ × List ℕ)) (given : Reply)
-    → has_room old (names_of us) ≡ false → given ≡ reply.Refused id 17 None
-    → Answered (state_with p old put) id (placed (state_with p old put) (Put peer us)) (state_with p old put) given
-no_room_to_put p old put id peer us given h e = let s = state_with p old put in
-    answered-no s id (Put peer us) given (and_right (is_first_put s peer us) (has_room old (names_of us)) h) e
+pub asks_found : (q : Query) (l r : ℕ) → AsksNames q → q.left ≡ Name l → q.right ≡ Name r → q ≡ names_query l r
+asks_found q l r asks hl hr = let zero : q.peer ≡ 0 = ap (λ (p : Query). p.peer) asks.2 in parts zero hl hr
+  where
+    parts : q.peer ≡ 0 → q.left ≡ Name l → q.right ≡ Name r → q ≡ names_query l r
+    parts a b c = cc (a, b, c)
 
-pub puts_session : (p : Option (List ℕ)) (put : Option Version) (old new : SymbolLists) (id : ℕ) (peer : List ℕ) (us : List (List ℕ × List ℕ)) (v : Version) (given : Reply)
-    → is_first_put (state_with p old put) peer us ≡ true → has_room old (names_of us) ≡ true → new ≡ with_names old (names_of us) → v.pairs ≡ pairs_in new.names us
-    → given ≡ reply.Put id peer 1
-    → Answered (state_with p old put) id (placed (state_with p old put) (Put peer us)) (state_with p new (Some v)) given
-puts_session None put old new id peer us v given first room grown numbered e = absurd (off first)
-puts_session (Some name) (Some w) old new id peer us v given first room grown numbered e =
-    absurd (off ((and_parts (is_declared (state_with (Some name) old (Some w)) peer) (false && nat_le (length us) 2000) first).1))
-puts_session (Some name) None old new id peer us v given first room grown numbered e =
-    puts name old id peer us new v.pairs given first room grown numbered e
+pub rows_below : (rows : List (List ℕ)) (v : PeerVersion) → IsIndexed rows v → (name : ℕ) → All (λ n. n < length rows) (row_of rows name)
+rows_below rows v index name = subst (λ (ns : List ℕ). All (λ n. n < length rows) ns) (sym (index.rows_are name)) (rights_of-below (length rows) index.pairs name index.bounded)
 
-pub not_asked : (p : Option (List ℕ)) (old : SymbolLists) (put : Option Version) (id : ℕ) (peer left right : List ℕ) (given : Reply)
-    → is_declared (state_with p old put) peer ≡ false → given ≡ reply.Refused id 17 None
-    → Answered (state_with p old put) id (placed (state_with p old put) (Ask peer left right)) (state_with p old put) given
-not_asked p old put id peer left right given h e = let s = state_with p old put in
-    answered-no s id (Ask peer left right) given (and_left (is_declared s peer) (has_room old (left ∷ right ∷ [])) h) e
+pub asked_does : (o : Option (List (List ℕ))) (h : List Accepted) (y : SymbolLists) (q : Query) (verdict : Bool) (pin : Pin) (id : ℕ) → IsSome o → IsOne o → Decides (present_version 0 h) q verdict
+    → pin.versions ≡ pin_of (declared_names o) h → (before : SymbolLists)
+    → Does (record { peers = o; symbols = before; history = h }) id y (request.Ask q None None) (record { peers = o; symbols = y; history = h }) (reply.Decided id verdict pin)
+asked_does o h y q verdict pin id some one decides pins before = (refl, verdict_of verdict, subst (λ (j : Job). Answers j (verdict_of verdict)) (sym same) decides, told verdict pins)
+  where
+    job : Pinned → Job
+    job p = record { pinned = p; query = q }
 
-pub no_room_to_ask : (p : Option (List ℕ)) (old : SymbolLists) (put : Option Version) (id : ℕ) (peer left right : List ℕ) (given : Reply)
-    → has_room old (left ∷ right ∷ []) ≡ false → given ≡ reply.Refused id 17 None
-    → Answered (state_with p old put) id (placed (state_with p old put) (Ask peer left right)) (state_with p old put) given
-no_room_to_ask p old put id peer left right given h e = let s = state_with p old put in
-    answered-no s id (Ask peer left right) given (and_right (is_declared s peer) (has_room old (left ∷ right ∷ [])) h) e
+    same : job_at (record { peers = o; symbols = before; history = h }) (pin_of (declared_names o) h) q ≡ job_under (present_version 0 h) q
+    same = ap job (pinned_only (declared_names o) h (single o some one))
 
-pub asks_session : (p : Option (List ℕ)) (put : Option Version) (old new : SymbolLists) (id : ℕ) (peer left right : List ℕ)
-    → (pair : ℕ × ℕ) (verdict : Bool) (pin : Pin) (given : Reply)
-    → is_declared (state_with p old put) peer ≡ true → has_room old (left ∷ right ∷ []) ≡ true → new ≡ with_names old (left ∷ right ∷ [])
-    → pair ≡ (number_of new.names left, number_of new.names right) → Decides (pairs_of put) pair.0 pair.1 verdict
-    → pin.versions ≡ pin_of (option_to_list p) (history_of put) → given ≡ reply.Decided id verdict pin
-    → Answered (state_with p old put) id (placed (state_with p old put) (Ask peer left right)) (state_with p new put) given
-asks_session None put old new id peer left right pair verdict pin given declared room grown numbers decides pins e = absurd (off declared)
-asks_session (Some name) None old new id peer left right pair verdict pin given declared room grown numbers decides pins e =
-    asks name old new [] [] id peer left right pair verdict pin given refl declared room grown numbers decides pins e
-asks_session (Some name) (Some v) old new id peer left right pair verdict pin given declared room grown numbers decides pins e =
-    asks name old new (history_of (Some v)) v.pairs id peer left right pair verdict pin given refl declared room grown numbers decides pins e
+    told : (b : Bool) → pin.versions ≡ pin_of (declared_names o) h → reply.Decided id b pin ≡ reply.Decided id (is_yes (verdict_of b)) (record { versions = pin_of (declared_names o) h })
+    told true e = ap (λ (vs : List ℕ). reply.Decided id true (record { versions = vs })) e
+    told false e = ap (λ (vs : List ℕ). reply.Decided id false (record { versions = vs })) e

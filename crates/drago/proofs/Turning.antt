@@ -1,12 +1,14 @@
 -- One request as a window of its own, and lines without a request.
-use Rattle.std.proofs.Common.{◌≡◌, ℕ, ◌+◌, ◌<◌, ◌≤◌, List, [], ◌∷◌, length, Bool, true, false, refl, ap, sym, ◌∙◌, subst, arith, Ok, Err}
+use Rattle.std.proofs.Common.{◌≡◌, ℕ, ◌+◌, ◌<◌, ◌≤◌, List, [], ◌∷◌, length, Bool, true, false, refl, ap, sym, ◌∙◌, subst, arith, None, Ok, Err}
 use Rattle.std.proofs.lemmas.Bool.{le-leb, lt-leb}
-use Rattle.dd_wire.specs.Refusal.{Refusal, Tested, ◌>>=◌, demand, refused, line_too_long}
-use Rattle.dd_wire.specs.Lines.{request_in}
+use Rattle.dd_wire.specs.Forms.{Written}
+use Rattle.dd_wire.specs.Lines.{form_in}
+use Rattle.dd_wire.specs.Refusal.{Refusal, Tested, ◌>>=◌, demand, refused, line_too_long, not_built}
+use Rattle.dd_wire.specs.Requests.{AfterForm}
 use Rattle.dd_wire.specs.declared.reply.Reply.{Reply}
 use Rattle.dd_wire.specs.declared.reply.Reply.TheVariants as reply
-use Rattle.dd_wire.specs.declared.request.Request.{Request}
-use Rattle.drago.specs.Session.{State, Standing, Kept, finished, longest_line, is_blank, placed, tested, reads, read_line, Answered, Closes, Turns, Turn}
+use Rattle.drago.specs.Does.{AnsweredForm, AnsweredLine}
+use Rattle.drago.specs.Session.{State, Standing, Kept, finished, longest_line, is_blank, is_built, built_form, admitted, reads, WithRequest, Turns, Turn}
 
 -- the standing of a state between windows
 abbrev pub between : State → ℕ → Standing
@@ -15,23 +17,76 @@ between s n = record { state = s; requests = n; kept = [] }
 pub turn_blank : (s : State) (n : ℕ) (line : List ℕ) → is_blank line ≡ true → Turn 1 (between s n) line (between s n) []
 turn_blank s n line h = subst (λ b. Turns b 1 (between s n) line (between s n) []) (sym h) (((refl, refl), refl), refl)
 
-pub turn_answered : (s new : State) (n : ℕ) (line : List ℕ) (given : Reply) → is_blank line ≡ false → Answered s (n + 1) (tested s line) new given
+pub turn_answered : (s new : State) (n : ℕ) (line : List ℕ) (given : Reply) → is_blank line ≡ false → AnsweredLine s (n + 1) line new given
     → Turn 1 (between s n) line (between new (n + 1)) (given ∷ [])
 turn_answered s new n line given h answered =
-    let same : (new, answered.0) ≡ read_line s (n + 1) line = sym answered.1 in
-    subst (λ b. Turns b 1 (between s n) line (between new (n + 1)) (given ∷ [])) (sym h)
-    (subst (λ (r : State × Kept). Closes true r.0 (r.1 ∷ []) new [] (given ∷ []) × (n + 1 ≡ n + 1)) same
-    (((given, [], answered.2, (refl, refl), refl), refl), refl))
+    let same : (new, answered.2.0) ≡ reads s (n + 1) answered.0 = sym answered.2.1 in
+    subst (λ b. Turns b 1 (between s n) line (between new (n + 1)) (given ∷ [])) (sym h) (
+      answered.0,
+      answered.1,
+      subst (λ (r : State × Kept). WithRequest 1 (between s n) r (between new (n + 1)) (given ∷ [])) same
+          ((given, [], answered.2.2, (refl, refl), refl), refl),
+      refl,
+    )
 
 -- ---- the tests of a line
 
-pub too_long-tested : (s : State) (line : List ℕ) → longest_line < length line → tested s line ≡ Err (refused 16)
-too_long-tested s line h = ap (λ (b : Bool). demand line_too_long b >>= (λ short. request_in line >>= (λ request. placed s request))) (lt-leb (length line) longest_line h)
+-- the tests of a line behind the one of its length, for what its form is
+after_length : State → Tested Written → Bool → Tested Written
+after_length s t short = demand line_too_long short >>= (λ is. t >>= (λ w. demand not_built (is_built s w) >>= (λ built. Ok w)))
 
-pub short-tested : (s : State) (line : List ℕ) (t : Tested Request) → length line ≤ longest_line → request_in line ≡ t → tested s line ≡ (t >>= (λ request. placed s request))
-short-tested s line t h e =
-    ap (λ (b : Bool). demand line_too_long b >>= (λ short. request_in line >>= (λ request. placed s request))) (le-leb (length line) longest_line h)
-    ∙ ap (λ (q : Tested Request). q >>= (λ request. placed s request)) e
+too_long-form : (s : State) (line : List ℕ) → longest_line < length line → built_form s line ≡ Err (refused 16)
+unfolding after_length
+too_long-form s line h = ap (after_length s (form_in line)) (lt-leb (length line) longest_line h)
+
+-- the test of what a form is
+if_built : State → Written → Bool → Tested Written
+if_built s w built = demand not_built built >>= (λ is. Ok w)
+
+short-form : (s : State) (line : List ℕ) (t : Tested Written) → length line ≤ longest_line → form_in line ≡ t
+    → built_form s line ≡ (t >>= (λ w. if_built s w (is_built s w)))
+unfolding after_length if_built
+short-form s line t h e = ap (after_length s (form_in line)) (le-leb (length line) longest_line h) ∙ ap (λ (u : Tested Written). u >>= (λ w. if_built s w (is_built s w))) e
+
+pub built-form : (s : State) (line : List ℕ) (w : Written) → length line ≤ longest_line → form_in line ≡ Ok w → is_built s w ≡ true → built_form s line ≡ Ok w
+unfolding if_built
+built-form s line w short e built = short-form s line (Ok w) short e ∙ ap (if_built s w) built
+
+pub not_built-form : (s : State) (line : List ℕ) (w : Written) → length line ≤ longest_line → form_in line ≡ Ok w → is_built s w ≡ false → built_form s line ≡ Err (refused 17)
+unfolding if_built
+not_built-form s line w short e built = short-form s line (Ok w) short e ∙ ap (if_built s w) built
+
+pub refused-form : (s : State) (line : List ℕ) (r : Refusal) → length line ≤ longest_line → form_in line ≡ Err r → built_form s line ≡ Err r
+refused-form s line r short e = short-form s line (Err r) short e
+
+-- a line whose form is refused gets that refusal, and nothing changes
+pub answered-refused : (s : State) (id : ℕ) (line : List ℕ) (e : Refusal) (given : Reply) → built_form s line ≡ Err e → given ≡ reply.Refused id e.code e.n
+    → AnsweredLine s id line s given
+answered-refused s id line e given is same = (
+  Err e,
+  (
+    Err e,
+    subst (λ (t : Tested Written). AfterForm t s.peers s.symbols (Err e)) (sym is) refl,
+    refl,
+  ),
+  (finished (reply.Refused id e.code e.n), refl, same),
+)
+
+pub answered-too_long : (s : State) (id : ℕ) (line : List ℕ) (given : Reply) → longest_line < length line → given ≡ reply.Refused id 16 None → AnsweredLine s id line s given
+answered-too_long s id line given h e = answered-refused s id line (refused 16) given (too_long-form s line h) e
+
+-- what is answered to the form of a line is answered to the line
+pub answered-form : (s new : State) (id : ℕ) (line : List ℕ) (w : Written) (given : Reply) → built_form s line ≡ Ok w → AnsweredForm s id w new given
+    → AnsweredLine s id line new given
+answered-form s new id line w given is answered = (
+  answered.0 >>= admitted s,
+  (
+    answered.0,
+    subst (λ (t : Tested Written). AfterForm t s.peers s.symbols answered.0) (sym is) answered.1,
+    refl,
+  ),
+  answered.2,
+)
 
 pub too_long-not_blank : (line : List ℕ) → longest_line < length line → is_blank line ≡ false
 too_long-not_blank [] h = absurd (none h)
@@ -43,10 +98,3 @@ too_long-not_blank (b ∷ []) h = absurd (one h)
     one : longest_line < 1 → ⊥
     one k = omega arith
 too_long-not_blank (b ∷ c ∷ bs) h = refl
-
-pub answered-refused : (s : State) (id : ℕ) (t : Tested Request) (e : Refusal) (given : Reply) → t ≡ Err e → given ≡ reply.Refused id e.code e.n → Answered s id t s given
-answered-refused s id t e given is same = (finished (reply.Refused id e.code e.n), ap (reads s id) is, same)
-
-pub answered-tested : (s new : State) (id : ℕ) (line : List ℕ) (r : Request) (given : Reply) → length line ≤ longest_line → request_in line ≡ Ok r
-    → Answered s id (placed s r) new given → Answered s id (tested s line) new given
-answered-tested s new id line r given short is answered = subst (λ (t : Tested Request). Answered s id t new given) (sym (short-tested s line (Ok r) short is)) answered

@@ -1,5 +1,5 @@
 -- Why a verdict is right: what is reached follows, and what is reached makes the one element of a countermodel.
-use Rattle.std.proofs.Common.{inl, inr, ◌≡◌, ℕ, ◌<◌, List, [], ◌∷◌, length, get_or, Bool, true, false, ◌&&◌, nat_eq, All, refl, sym, ◌∙◌, subst, arith, Result, Ok, Err, IfOk}
+use Rattle.std.proofs.Common.{inl, inr, ◌≡◌, ℕ, zero, suc, ◌<◌, List, [], ◌∷◌, length, get_or, Bool, true, false, ◌&&◌, nat_eq, All, refl, sym, ◌∙◌, subst, arith, Result, Ok, Err, IfOk}
 use Rattle.std.proofs.lemmas.List.Elements.{All-map, All-nil, All-cons}
 use Rattle.std.proofs.lemmas.List.{length-map, get_or-map}
 use Rattle.std.proofs.lemmas.Bool.{cases_Bool}
@@ -9,8 +9,15 @@ use Rattle.dd_interp.specs.declared.interp.Interp.{Interp}
 use Rattle.dd_interp.specs.Meaning.{meaning, in_name, Holds}
 use Rattle.dd_interp.specs.Satisfies.{IsShaped, SatisfiesAxiom, SatisfiesAxioms}
 use Rattle.dd_interp.proofs.Meanings.{meaning-Name}
-use Rattle.drago.specs.World.{PeerVersion, World, SatisfyVersions, Follows, IsCounter, Answer, Answers}
-use Rattle.drago.specs.Above.{is_among, row_of, rights_of, IsLeastClosed, axiom_of_pair, version_of_pairs}
+use Rattle.dd_peer.specs.declared.version.PeerVersion.{PeerVersion}
+use Rattle.dd_peer.specs.declared.version.Query.{Query}
+use Rattle.dd_concept.specs.declared.concept.Axiom.{Axiom}
+use Rattle.dd_world.specs.declared.world.World.{World}
+use Rattle.dd_world.specs.World.{IsLink, SatisfiesAt, SatisfiesInto, SatisfiesOnto, SatisfiesVersion, Follows, IsCounter}
+use Rattle.drago.specs.Answers.{Answer, Answers}
+use Rattle.drago.specs.IsIndexed.{IsIndexed}
+use Rattle.dd_peer.specs.declared.version.Pinned.{Pinned}
+use Rattle.drago.specs.Above.{is_among, IsLeastClosed, axiom_of_pair, version_of_pairs}
 use Rattle.drago.specs.Verdict.{names_query, pairs_job, verdict_of, Decides}
 use Rattle.drago.proofs.Least.{IsLeast, Passes, least_of, among-passes, least_from_rows}
 
@@ -31,14 +38,18 @@ follows_local : (pairs : List (ℕ × ℕ)) (left right : ℕ) (ns : List ℕ) �
 follows_local pairs left right ns least among i sat x within holds =
     among-passes (has i x) ns right (least.least (has i x) holds (has_passes i pairs sat x within)) among
 
-satisfies_only : (v : PeerVersion) (locals : List Interp) → SatisfyVersions (v ∷ []) locals → (i : Interp) → slice_get locals 0 ≡ Some i → SatisfiesAxioms i v.axioms
-satisfies_only v [] sat i e = absurd sat
-satisfies_only v (j ∷ js) sat i e = let same : j ≡ i = cc e in subst (λ k. SatisfiesAxioms k v.axioms) same sat.0
+-- one version alone
+abbrev pub only : List (ℕ × ℕ) → Pinned
+only pairs = record { peers = version_of_pairs pairs ∷ [] }
+
+satisfies_only : (i : Interp) (w : World) (axioms : List Axiom) → slice_get w.locals 0 ≡ Some i → All (SatisfiesAt w 0) axioms → SatisfiesAxioms i axioms
+satisfies_only i w axioms local sat = λ k d inside. sat k d inside i local
 
 pub reached_follows : (pairs : List (ℕ × ℕ)) (left right : ℕ) (ns : List ℕ) → IsLeast pairs left ns → is_among right ns ≡ true
-    → Follows (version_of_pairs pairs ∷ []) (names_query left right)
+    → Follows (only pairs) (names_query left right)
 reached_follows pairs left right ns least among w world sat i local x within holds =
-    follows_local pairs left right ns least among i (satisfies_only (version_of_pairs pairs) w.locals sat i local) x within holds
+    follows_local pairs left right ns least among i
+    (satisfies_only i w (map axiom_of_pair pairs) local (sat 0 (version_of_pairs pairs) refl).axioms) x within holds
 
 -- ---- what is reached makes a countermodel
 
@@ -73,13 +84,41 @@ one_satisfies pairs first ns least = All-map (SatisfiesAxiom (one_element ns)) a
         subst (λ y. Holds (one_element ns) y (Name p.1)) zero
         (has_one ns p.1 ∙ passes (sym (has_one ns p.0) ∙ subst (λ y. Holds (one_element ns) y (Name p.0)) (sym zero) left))
 
+-- the world of one peer with this interpretation
+abbrev pub world_with : Interp → World
+world_with i = record { locals = i ∷ []; links = [] }
+
+satisfies_at : (i : Interp) (axioms : List Axiom) → SatisfiesAxioms i axioms → All (SatisfiesAt (world_with i) 0) axioms
+satisfies_at i axioms sat = λ k d inside j local.
+    let same : i ≡ j = first local in
+    subst (λ (m : Interp). SatisfiesAxiom m (get_or axioms k d)) same (sat k d inside)
+  where
+    first : {j : Interp} → slice_get (i ∷ []) 0 ≡ Some j → i ≡ j
+    first e = cc e
+
+satisfies_world : (pairs : List (ℕ × ℕ)) (i : Interp) → SatisfiesAxioms i (map axiom_of_pair pairs)
+    → (j : ℕ) (v : PeerVersion) → slice_get (version_of_pairs pairs ∷ []) j ≡ Some v → SatisfiesVersion (world_with i) j v
+satisfies_world pairs i sat zero v e = subst (SatisfiesVersion (world_with i) 0) same (record {
+  axioms = satisfies_at i (map axiom_of_pair pairs) sat;
+  into = All-nil (SatisfiesInto (world_with i) 0);
+  onto = All-nil (SatisfiesOnto (world_with i) 0);
+})
+  where
+    same : version_of_pairs pairs ≡ v
+    same = cc e
+satisfies_world pairs i sat (suc j) v e = cc e
+
 pub unreached_fails : (pairs : List (ℕ × ℕ)) (left right : ℕ) (ns : List ℕ) → IsLeast pairs left ns → is_among right ns ≡ false
-    → (w : World) × IsCounter (version_of_pairs pairs ∷ []) (names_query left right) w
+    → (w : World) × IsCounter (only pairs) (names_query left right) w
 unreached_fails pairs left right ns least away = (
-  record { locals = one_element ns ∷ [] },
+  world_with (one_element ns),
   record {
-    world = record { one_each = refl; shaped = All-cons IsShaped (one_element ns) [] (one_is_shaped ns) (All-nil IsShaped) };
-    satisfies = (one_satisfies pairs left ns least, tt);
+    world = record {
+      one_each = refl;
+      shaped = All-cons IsShaped (one_element ns) [] (one_is_shaped ns) (All-nil IsShaped);
+      links = All-nil (IsLink (world_with (one_element ns)));
+    };
+    satisfies = satisfies_world pairs (one_element ns) (one_satisfies pairs left ns least);
     element = (
       one_element ns,
       0,
@@ -105,18 +144,18 @@ answers_reached pairs left right ns least = elim (cases_Bool (is_among right ns)
 ]
 
 -- what a walk over the rows of an index finds decides the question
-pub walk_decides : (rows : List (List ℕ)) (pairs : List (ℕ × ℕ)) (left right : ℕ) (found : Bool)
-    → ((a : ℕ) → row_of rows a ≡ rights_of pairs a)
-    → (ns : List ℕ) × IsLeastClosed rows left ns × (found ≡ is_among right ns) → Decides pairs left right found
-walk_decides rows pairs left right found index walked =
-    subst (λ b. Answers (pairs_job pairs left right) (verdict_of b)) (sym walked.2)
-    (answers_reached pairs left right walked.0 (least_from_rows rows pairs left walked.0 index walked.1))
+pub walk_decides : (rows : List (List ℕ)) (v : PeerVersion) (q : Query) (left right : ℕ) (found : Bool) → q ≡ names_query left right → IsIndexed rows v
+    → (ns : List ℕ) × IsLeastClosed rows left ns × (found ≡ is_among right ns) → Decides v q found
+walk_decides rows v q left right found asks index walked =
+    subst (λ (r : Query). Decides v r found) (sym asks)
+    (subst (λ (u : PeerVersion). Decides u (names_query left right) found) (sym index.version)
+    (subst (λ b. Answers (pairs_job index.pairs left right) (verdict_of b)) (sym walked.2)
+    (answers_reached index.pairs left right walked.0 (least_from_rows rows index.pairs left walked.0 index.rows_are walked.1))))
 
-pub walk_decides_ok : {E : Type 0} (rows : List (List ℕ)) (pairs : List (ℕ × ℕ)) (left right : ℕ) (r : Result Bool E)
-    → ((a : ℕ) → row_of rows a ≡ rights_of pairs a)
-    → IfOk r (λ found. (ns : List ℕ) × IsLeastClosed rows left ns × (found ≡ is_among right ns)) → IfOk r (Decides pairs left right)
-walk_decides_ok rows pairs left right (Ok found) index h = walk_decides rows pairs left right found index h
-walk_decides_ok rows pairs left right (Err e) index h = tt
+pub walk_decides_ok : {E : Type 0} (rows : List (List ℕ)) (v : PeerVersion) (q : Query) (left right : ℕ) (r : Result Bool E) → q ≡ names_query left right → IsIndexed rows v
+    → IfOk r (λ found. (ns : List ℕ) × IsLeastClosed rows left ns × (found ≡ is_among right ns)) → IfOk r (Decides v q)
+walk_decides_ok rows v q left right (Ok found) asks index h = walk_decides rows v q left right found asks index h
+walk_decides_ok rows v q left right (Err e) asks index h = tt
 
 -- each question between names has an answer
 pub answerable : (pairs : List (ℕ × ℕ)) (left right : ℕ) → (a : Answer) × Answers (pairs_job pairs left right) a

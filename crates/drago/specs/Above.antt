@@ -1,9 +1,13 @@
 -- Versions with axioms between names as pairs of numbers: the index of a version, and the names above a name.
-use Rattle.std.specs.Prelude.{◌≡◌, ℕ, ◌==◌, ◌++◌, nat_lt, Bool, true, false, List, [], ◌∷◌, length, if◌then◌else◌, All, map, filter, count_by}
+use Rattle.std.specs.Prelude.{◌≡◌, ℕ, ◌==◌, ◌++◌, ◌&&◌, nat_lt, Bool, true, false, List, [], ◌∷◌, length, if◌then◌else◌, All, map, filter, count_by}
 use Rattle.std.specs.List.{list_any, list_all, slice_index_or}
 use Rattle.dd_concept.specs.declared.concept.Axiom.{Axiom}
 use Rattle.dd_concept.specs.declared.concept.Concept.TheVariants.{Name}
-use Rattle.drago.specs.World.{PeerVersion}
+use Rattle.dd_concept.specs.declared.concept.Concept.{Concept}
+use Rattle.dd_concept.specs.declared.concept.Concept.TheOpen.{Concept-F}
+use Rattle.dd_concept.specs.declared.concept.Concept.TheFolds.{fold-Concept}
+use Rattle.dd_peer.specs.declared.version.PeerVersion.{PeerVersion}
+use Rattle.dd_wire.specs.Accepted.{is_empty}
 
 -- the right names of the pairs with this left name, in their order
 abbrev pub rights_of : List (ℕ × ℕ) → ℕ → List ℕ
@@ -50,4 +54,26 @@ abbrev pub axiom_of_pair : ℕ × ℕ → Axiom
 axiom_of_pair p = record { left = Name p.0; right = Name p.1 }
 
 abbrev pub version_of_pairs : List (ℕ × ℕ) → PeerVersion
-version_of_pairs pairs = record { axioms = map axiom_of_pair pairs }
+version_of_pairs pairs = record { axioms = map axiom_of_pair pairs; into = []; onto = [] }
+
+-- is the concept a name
+abbrev pub is_name_at : Concept-F Bool → Bool
+is_name_at Concept-F.Top = false
+is_name_at Concept-F.Bottom = false
+is_name_at (Concept-F.Name a) = true
+is_name_at (Concept-F.Not c) = false
+is_name_at (Concept-F.And c d) = false
+is_name_at (Concept-F.Or c d) = false
+is_name_at (Concept-F.HasSome r c) = false
+is_name_at (Concept-F.HasAll r c) = false
+
+abbrev pub is_atomic : Concept → Bool
+is_atomic = fold-Concept Bool is_name_at
+
+-- are both sides of the axiom names
+abbrev pub is_between_names : Axiom → Bool
+is_between_names a = is_atomic a.left && is_atomic a.right
+
+-- does the version have axioms between names alone, and no rules
+abbrev pub is_plain : PeerVersion → Bool
+is_plain v = list_all is_between_names v.axioms && is_empty v.into && is_empty v.onto

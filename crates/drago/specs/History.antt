@@ -1,6 +1,7 @@
 -- The history of accepted puts, and the pins that name versions in it.
-use Rattle.std.specs.Prelude.{ℕ, ◌+◌, ◌-◌, ◌==◌, List, [], ◌∷◌, length, map, filter, slice_get, unwrap_or, if◌then◌else◌}
-use Rattle.drago.specs.World.{PeerVersion}
+use Rattle.std.specs.Prelude.{ℕ, ◌+◌, ◌-◌, ◌==◌, ◌&&◌, nat_le, Bool, true, List, [], ◌∷◌, length, map, filter, slice_get, unwrap_or, if◌then◌else◌}
+use Rattle.dd_peer.specs.declared.version.PeerVersion.{PeerVersion}
+use Rattle.dd_peer.specs.declared.version.Pinned.{Pinned}
 
 -- an accepted put: the peer's number and its new version
 pub record Accepted : Type 0 where
@@ -9,7 +10,7 @@ pub record Accepted : Type 0 where
 
 -- the version before the first put
 abbrev pub empty_version : PeerVersion
-empty_version = record { axioms = [] }
+empty_version = record { axioms = []; into = []; onto = [] }
 
 -- the versions of one peer, oldest first
 abbrev pub versions_of : ℕ → List Accepted → List PeerVersion
@@ -37,5 +38,18 @@ abbrev pub pinned_from : ℕ → List ℕ → List Accepted → List PeerVersion
 pinned_from first [] history = []
 pinned_from first (number ∷ numbers) history = version_at first history number ∷ pinned_from (first + 1) numbers history
 
-abbrev pub pinned_by : List ℕ → List Accepted → List PeerVersion
-pinned_by pin history = pinned_from 0 pin history
+abbrev pub pinned_by : List ℕ → List Accepted → Pinned
+pinned_by pin history = record { peers = pinned_from 0 pin history }
+
+-- the last version of a peer
+abbrev pub present_version : ℕ → List Accepted → PeerVersion
+present_version peer history = version_at peer history (last_version peer history)
+
+-- has a pin a version of each peer from `first` on for its numbers
+abbrev pub are_versions : ℕ → List ℕ → List Accepted → Bool
+are_versions first [] history = true
+are_versions first (number ∷ numbers) history = nat_le number (last_version first history) && are_versions (first + 1) numbers history
+
+-- has a pin one number per peer, each that of a version
+abbrev pub is_pin : List (List ℕ) → List ℕ → List Accepted → Bool
+is_pin names pin history = (length pin == length names) && are_versions 0 pin history

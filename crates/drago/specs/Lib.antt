@@ -1,4 +1,4 @@
-pub mod World
+pub mod Answers
 pub mod History
 pub mod Session
 pub mod Above
@@ -7,4 +7,6 @@ pub mod SessionState
 pub mod Status
 pub mod Headline
 pub mod Turns
-pub mod Numbers
+pub mod Does
+pub mod IsIndexed
+pub mod Judged

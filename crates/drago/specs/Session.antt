@@ -1,128 +1,146 @@
 -- A session: how a line changes the state and what is replied to it, window by window.
-use Rattle.std.specs.Prelude.{◌≡◌, ℕ, ◌+◌, ◌==◌, ◌&&◌, Bool, true, false, nat_le, List, [], ◌∷◌, ◌++◌, length, map, Ok, Err}
-use Rattle.std.specs.List.{list_any, flat_map}
-use Rattle.std.specs.Str.{bytes_eq}
-use Rattle.dd_concept.specs.declared.concept.Concept.TheVariants.{Name}
-use Rattle.dd_concept.specs.declared.concept.Axiom.{Axiom}
+use Rattle.std.specs.Prelude.{◌≡◌, ℕ, ◌+◌, ◌==◌, ◌&&◌, ◌⊎◌, Bool, true, false, nat_le, List, [], ◌∷◌, ◌++◌, length, Option, None, Some, Ok, Err}
+use denote.Bor.{Bor}
+use Rattle.std.specs.List.{flat_map}
 use Rattle.dd_lines.specs.Lines.{lines_of}
-use Rattle.dd_text.specs.Names.{names_a_thing}
-use Rattle.dd_text.specs.Symbols.{SymbolLists, most_symbols, symbol_count, with_texts, number_of}
-use Rattle.dd_wire.specs.Refusal.{Tested, ◌>>=◌, demand, line_too_long, not_built}
-use Rattle.dd_wire.specs.Lines.{request_in}
+use Rattle.dd_text.specs.Reads.{told}
+use Rattle.dd_text.specs.Symbols.{SymbolLists, number_of}
+use Rattle.dd_peer.specs.Refusals.{refusal_of}
+use Rattle.dd_peer.specs.declared.check.PeerErr.{PeerErr}
+use Rattle.dd_peer.specs.declared.check.PeerErr.TheVariants.{SamePeer, UnknownPeer, TooManyAxioms, TooManyRules}
+use Rattle.dd_peer.specs.declared.version.PeerVersion.{PeerVersion}
+use Rattle.dd_peer.specs.declared.version.Query.{Query}
+use Rattle.dd_world.specs.Faults.{IsFirstFault}
+use Rattle.dd_world.specs.World.{IsCounter}
+use Rattle.dd_world.specs.declared.world.World.{World}
+use Rattle.dd_world.specs.declared.world.WorldFault.{WorldFault}
+use Rattle.dd_world.specs.declared.world.WorldFault.TheVariants as fault
+use Rattle.dd_cert.specs.Certificates.{Tried, Certified, Unreadable, field, place, text, full, cert_in}
+use Rattle.dd_wire.specs.Accepted.{is_accepted, is_empty}
+use Rattle.dd_wire.specs.Forms.{Written}
+use Rattle.dd_wire.specs.Forms as form
+use Rattle.dd_wire.specs.Lines.{form_in}
+use Rattle.dd_wire.specs.Refusal.{Refusal, Tested, ◌>>=◌, demand, refused_at, line_too_long, not_built, same_peer, unknown_source, too_many_axioms, too_many_rules, bad_pin, symbols_full}
 use Rattle.dd_wire.specs.Replies.{reply_text}
+use Rattle.dd_wire.specs.Requests.{AfterForm, declared_names, query_of, version_of}
+use Rattle.dd_wire.specs.Texts.{Parsed, Resolved}
+use Rattle.dd_wire.specs.Texts as parsed
+use Rattle.dd_wire.specs.declared.reply.BadWorld.{BadWorld}
+use Rattle.dd_wire.specs.declared.reply.BadWorld.TheVariants as bad
+use Rattle.dd_wire.specs.declared.reply.Unread.TheVariants as unread
 use Rattle.dd_wire.specs.declared.reply.Reply.{Reply}
 use Rattle.dd_wire.specs.declared.reply.Reply.TheVariants as reply
-use Rattle.dd_wire.specs.declared.request.Request.{Request}
-use Rattle.dd_wire.specs.declared.request.Request.TheVariants.{Peers, Put, Ask}
-use Rattle.drago.specs.World.{Job, Answer, follows, fails, Answers}
-use Rattle.drago.specs.History.{Accepted, last_version, pin_of, pinned_by}
+use Rattle.drago.specs.Above.{is_plain}
+use Rattle.drago.specs.Answers.{Job, Answer, follows, fails, Answers}
+use Rattle.drago.specs.History.{Accepted, last_version, present_version, pin_of, pinned_by, is_pin}
 
 abbrev pub longest_line : ℕ
 longest_line = 1048576
 
-abbrev pub most_axioms : ℕ
-most_axioms = 2000
-
--- the declared peers, the texts that stand for numbers, and the accepted puts
+-- the declared peers, if there are any yet, the texts that stand for numbers, and the accepted puts
 pub record State : Type 0 where
-  pub peers : List (List ℕ)
+  pub peers : Option (List (List ℕ))
   pub symbols : SymbolLists
   pub history : List Accepted
 
 -- the state before the first request
 abbrev pub start : State
-start = record { peers = []; symbols = record { names = []; roles = [] }; history = [] }
+start = record { peers = None; symbols = record { names = []; roles = [] }; history = [] }
 
--- what the requests of a window leave for its end: a finished reply, or an ask with its number, its pin and its job
+-- the names of the declared peers, in declared order
+abbrev pub names_of : State → List (List ℕ)
+names_of state = declared_names state.peers
+
+-- what the requests of a window leave for its end: a finished reply; an ask with its number, its pin and its job; or a
+-- check with its number, its job, and the world that its certificate is
 pub data Kept : Type 0 where
   finished : Reply → Kept
   asked : ℕ → List ℕ → Job → Kept
-
--- ---- texts
-
--- the symbols with these names as well
-abbrev pub with_names : SymbolLists → List (List ℕ) → SymbolLists
-with_names s texts = record { names = with_texts s.names texts; roles = s.roles }
-
--- may there be these names as well
-abbrev pub has_room : SymbolLists → List (List ℕ) → Bool
-has_room s texts = nat_le (symbol_count (with_names s texts)) most_symbols
-
--- the names of axioms in the order of the text
-abbrev pub names_of : List (List ℕ × List ℕ) → List (List ℕ)
-names_of [] = []
-names_of (a ∷ more) = a.0 ∷ a.1 ∷ names_of more
-
--- the axiom between the names with these texts
-abbrev pub axiom_between : SymbolLists → List ℕ × List ℕ → Axiom
-axiom_between s a = record { left = Name (number_of s.names a.0); right = Name (number_of s.names a.1) }
+  judged : ℕ → Job → Tried Certified → Kept
 
 -- ---- the tests of a line, in their order: the first that fails refuses it
 
-abbrev pub is_one_name : List (List ℕ) → Bool
-is_one_name [] = false
-is_one_name (name ∷ []) = names_a_thing name
-is_one_name (name ∷ other ∷ names) = false
+-- the first put, and asks of a peer whose version is between names
+abbrev pub is_open : State → Written → Bool
+is_open state (form.peers names) = true
+is_open state (form.put peer axioms into onto) = is_empty state.history
+is_open state (form.ask peer left right expansions verdicts) = is_plain (present_version (number_of (names_of state) peer) state.history)
+is_open state (form.check peer left right pin cert) = true
+is_open state form.versions = true
 
--- the number of a peer, in declared order
-abbrev pub peer_number : State → List ℕ → ℕ
-peer_number state text = number_of state.peers text
+-- is the form one that is accepted so far
+abbrev pub is_built : State → Written → Bool
+is_built state w = is_accepted state.peers w && is_open state w
 
-abbrev pub is_declared : State → List ℕ → Bool
-is_declared state text = list_any (bytes_eq text) state.peers
+-- the form of a line
+abbrev pub built_form : State → List ℕ → Tested Written
+built_form state line = demand line_too_long (nat_le (length line) longest_line)
+    >>= (λ short. form_in line >>= (λ w. demand not_built (is_built state w) >>= (λ built. Ok w)))
 
--- a first put of a declared peer, with no more axioms than there may be
-abbrev pub is_first_put : State → List ℕ → List (List ℕ × List ℕ) → Bool
-is_first_put state peer axioms = is_declared state peer && ((length state.history == 0) && nat_le (length axioms) most_axioms)
+-- the code of a version that may not be one
+abbrev pub refused_version : PeerErr → Refusal
+refused_version (SamePeer rule) = refused_at same_peer rule
+refused_version (UnknownPeer rule) = refused_at unknown_source rule
+refused_version (TooManyAxioms count) = refused_at too_many_axioms count
+refused_version (TooManyRules from count) = refused_at too_many_rules count
 
--- One `peers` with one name; after it one `put` of that peer, and asks of it.
-abbrev pub is_built : State → Request → Bool
-is_built state (Peers names) = (length state.peers == 0) && is_one_name names
-is_built state (Put peer axioms) = is_first_put state peer axioms && has_room state.symbols (names_of axioms)
-is_built state (Ask peer left right) = is_declared state peer && has_room state.symbols (left ∷ right ∷ [])
+abbrev pub may_be_version : Option PeerErr → Tested Bool
+may_be_version None = Ok true
+may_be_version (Some e) = Err (refused_version e)
 
--- the tests that ask what the state accepts
-abbrev pub placed : State → Request → Tested Request
-placed state request = demand not_built (is_built state request) >>= (λ built. Ok request)
+-- the tests that ask what the state has, once the texts were read
+abbrev pub admits : State → SymbolLists → Parsed → Tested Bool
+admits state s (parsed.peers names) = Ok true
+admits state s (parsed.put peer axioms into onto) =
+    may_be_version (refusal_of (version_of (names_of state) s axioms into onto) (length (names_of state)) (number_of (names_of state) peer))
+admits state s (parsed.ask peer left right expansions verdicts) = Ok true
+admits state s (parsed.check peer left right pin cert) = demand bad_pin (is_pin (names_of state) pin state.history)
+admits state s parsed.versions = Ok true
 
-abbrev pub tested : State → List ℕ → Tested Request
-tested state line = demand line_too_long (nat_le (length line) longest_line) >>= (λ short. request_in line >>= (λ request. placed state request))
+abbrev pub admitted : State → Resolved → Tested Resolved
+admitted state r = admits state r.symbols r.request >>= (λ ok. Ok r)
+
+-- what the tests of a line find: its request, or the refusal
+abbrev pub Passes : State → List ℕ → Tested Resolved → Type 0
+Passes state line found = (texts : Tested Resolved) × AfterForm (built_form state line) state.peers state.symbols texts
+    × (found ≡ (texts >>= admitted state))
 
 -- ---- reading a line
 
 -- an accepted put is appended to the history
-abbrev pub with_put : State → ℕ → List (List ℕ × List ℕ) → State
-with_put state peer axioms = let symbols = with_names state.symbols (names_of axioms) in record {
+abbrev pub with_put : State → SymbolLists → ℕ → PeerVersion → State
+with_put state s peer version = record {
   peers = state.peers;
-  symbols = symbols;
-  history = state.history ++ record { peer = peer; version = record { axioms = map (axiom_between symbols) axioms } } ∷ [];
+  symbols = s;
+  history = state.history ++ record { peer = peer; version = version } ∷ [];
 }
+
+-- a job under a pin
+abbrev pub job_at : State → List ℕ → Query → Job
+job_at state pin query = record { pinned = pinned_by pin state.history; query = query }
 
 -- an ask is kept with its job under the pin of this moment
-abbrev pub job_of : State → ℕ → List ℕ → List ℕ → Job
-job_of state peer left right = record {
-  pinned = pinned_by (pin_of state.peers state.history) state.history;
-  query = record { peer = peer; left = Name (number_of state.symbols.names left); right = Name (number_of state.symbols.names right) };
-}
+abbrev pub with_ask : State → SymbolLists → ℕ → Query → State × Kept
+with_ask state s id query = let pin = pin_of (names_of state) state.history in
+    (record state { symbols = s }, asked id pin (job_at state pin query))
 
-abbrev pub with_ask : State → List ℕ → List ℕ → State
-with_ask state left right = record state { symbols = with_names state.symbols (left ∷ right ∷ []) }
+-- what an accepted request does, whose symbols have been added; a check leaves the symbols as they were
+abbrev pub does : State → ℕ → SymbolLists → Parsed → State × Kept
+does state id s (parsed.peers names) = (record state { peers = Some names }, finished (reply.Peers id (length names)))
+does state id s (parsed.put peer axioms into onto) =
+    let n = number_of (names_of state) peer in
+    let new = with_put state s n (version_of (names_of state) s axioms into onto) in
+    (new, finished (reply.Put id peer (last_version n new.history)))
+does state id s (parsed.ask peer left right expansions verdicts) = with_ask state s id (query_of (names_of state) s peer left right)
+does state id s (parsed.check peer left right pin cert) =
+    (state, judged id (job_at state pin (query_of (names_of state) s peer left right)) (cert_in s cert))
+-- no test lets it through so far
+does state id s parsed.versions = (state, finished (reply.Refused id not_built None))
 
--- what an accepted request does
-abbrev pub accepts : State → ℕ → Request → State × Kept
-accepts state id (Peers names) = (record state { peers = names }, finished (reply.Peers id (length names)))
-accepts state id (Put peer axioms) = let new = with_put state (peer_number state peer) axioms in
-    (new, finished (reply.Put id peer (last_version (peer_number state peer) new.history)))
-accepts state id (Ask peer left right) = let new = with_ask state left right in
-    (new, asked id (pin_of new.peers new.history) (job_of new (peer_number state peer) left right))
-
-abbrev pub reads : State → ℕ → Tested Request → State × Kept
-reads state id (Ok request) = accepts state id request
+-- a refused line changes nothing
+abbrev pub reads : State → ℕ → Tested Resolved → State × Kept
+reads state id (Ok r) = does state id r.symbols r.request
 reads state id (Err e) = (state, finished (reply.Refused id e.code e.n))
-
--- the state after the request with this number, and what is kept of it; a refused line changes nothing
-abbrev pub read_line : State → ℕ → List ℕ → State × Kept
-read_line state id line = reads state id (tested state line)
 
 -- ---- finishing a window
 
@@ -130,14 +148,40 @@ abbrev pub is_yes : Answer → Bool
 is_yes follows = true
 is_yes fails = false
 
+-- why a world is no countermodel, as it is replied
+abbrev pub fault_replied : WorldFault → BadWorld
+fault_replied fault.Shape = bad.Shape
+fault_replied (fault.Axiom peer index) = bad.Axiom index peer
+fault_replied (fault.Into peer index) = bad.Into index peer
+fault_replied (fault.Onto peer index) = bad.Onto index peer
+fault_replied fault.NotCounter = bad.NotCounter
+
+-- a check of a world is valid exactly where the world is a countermodel, and else its first fault is replied
+abbrev pub JudgesWorld : ℕ → Job → World → Reply → Type 0
+JudgesWorld id job w given = ((given ≡ reply.Valid id) × IsCounter job.pinned job.query w)
+    ⊎ ((f : WorldFault) × IsFirstFault job.pinned job.query w f × (given ≡ reply.InvalidWorld id (fault_replied f)))
+
+-- where a value stops to be a certificate, as it is replied; where it brings too many symbols the request is refused
+abbrev pub IsUnread : ℕ → Unreadable → Reply → Type 0
+IsUnread id (field name) given = (what : Bor (List ℕ)) × (what.now ≡ name) × (given ≡ reply.Unreadable id (unread.Field what))
+IsUnread id (place at value) given = given ≡ reply.Unreadable id (unread.Place (told at) value)
+IsUnread id (text at) given = given ≡ reply.Unreadable id (unread.Text (told at))
+IsUnread id full given = given ≡ reply.Refused id symbols_full None
+
+-- what is replied to a check, by the world that its certificate is, or where the certificate stops to be one
+abbrev pub Judges : ℕ → Job → Tried Certified → Reply → Type 0
+Judges id job (Ok c) given = JudgesWorld id job c.world given
+Judges id job (Err e) given = IsUnread id e given
+
 abbrev pub Finished : Kept → Reply → Type 0
 Finished (finished done) given = given ≡ done
 Finished (asked id pin job) given = (answer : Answer) × Answers job answer
     × (given ≡ reply.Decided id (is_yes answer) (record { versions = pin }))
+Finished (judged id job found) given = Judges id job found given
 
--- this reply may be given to a request that passed these tests, as a window of its own
-abbrev pub Answered : State → ℕ → Tested Request → State → Reply → Type 0
-Answered old id passes new reply = (kept : Kept) × (reads old id passes ≡ (new, kept)) × Finished kept reply
+-- this reply may be given to what the tests of a request found, as a window of its own
+abbrev pub Answered : State → ℕ → Tested Resolved → State → Reply → Type 0
+Answered old id found new reply = (kept : Kept) × (reads old id found ≡ (new, kept)) × Finished kept reply
 
 -- the replies of what was kept, in request order
 abbrev pub Finish : State → List Kept → State → List Reply → Type 0
@@ -163,14 +207,15 @@ pub record Standing : Type 0 where
   pub requests : ℕ
   pub kept : List Kept
 
--- what the window keeps with the request of this line
-abbrev pub kept_with : Standing → List ℕ → List Kept
-kept_with old line = old.kept ++ (read_line old.state (old.requests + 1) line).1 ∷ []
+-- a window goes on or ends with what was read of one more request
+abbrev pub WithRequest : ℕ → Standing → State × Kept → Standing → List Reply → Type 0
+WithRequest window old read new replies = let kept = old.kept ++ read.1 ∷ [] in
+    Closes (length kept == window) read.0 kept new.state new.kept replies
 
 abbrev pub Turns : Bool → ℕ → Standing → List ℕ → Standing → List Reply → Type 0
 Turns true window old line new replies = Closes true old.state old.kept new.state new.kept replies × (new.requests ≡ old.requests)
-Turns false window old line new replies = Closes (length (kept_with old line) == window) (read_line old.state (old.requests + 1) line).0 (kept_with old line) new.state new.kept replies
-    × (new.requests ≡ old.requests + 1)
+Turns false window old line new replies = (found : Tested Resolved) × Passes old.state line found
+    × WithRequest window old (reads old.state (old.requests + 1) found) new replies × (new.requests ≡ old.requests + 1)
 
 -- what one line does, and the replies that are given when it ends a window
 abbrev pub Turn : ℕ → Standing → List ℕ → Standing → List Reply → Type 0

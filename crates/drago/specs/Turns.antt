@@ -1,12 +1,12 @@
 -- One turn of a session: a line is read, and its reply is given.
-use Rattle.std.specs.Prelude.{◌≡◌, ℕ, List, [], Option, ⊤, Err}
+use Rattle.std.specs.Prelude.{◌≡◌, ℕ, List, [], Option, ⊤}
 use Rattle.dd_lines.specs.Outside.{Gives, GivesFront}
 use Rattle.dd_lines.specs.declared.reader.LineStep.{LineStep}
 use Rattle.dd_lines.specs.declared.reader.LineStep.TheVariants as step
 use Rattle.dd_wire.specs.declared.reply.Reply.{Reply}
 use Rattle.dd_wire.specs.declared.reply.Reply.TheVariants as reply
-use Rattle.dd_wire.specs.declared.request.Request.{Request}
-use Rattle.dd_wire.specs.Refusal.{Refusal, Tested}
+use Rattle.dd_wire.specs.declared.request.WireErr.{WireErr}
+use Rattle.dd_wire.specs.declared.request.WireErr.TheVariants as wire
 use Rattle.drago.specs.Headline.{window}
 use Rattle.drago.specs.Session.{Standing, Turn, written}
 use Rattle.drago.specs.SessionState.{state_of}
@@ -30,6 +30,7 @@ Turned old line new before given = (replies : List Reply) × Turn window old lin
 abbrev pub BreaksOff : Standing → List ℕ → Standing → Option (List ℕ) → Option (List ℕ) → Type 0
 BreaksOff old line new before given = (replies : List Reply) × Turn window old line new replies × GivesFront before given (written replies)
 
--- the reply tells of the test that failed
-abbrev pub IsRefusal : ℕ → Tested Request → Reply → Type 0
-IsRefusal id found given = (r : Refusal) × (found ≡ Err r) × (given ≡ reply.Refused id r.code r.n)
+-- the reply tells of the refusal that a reader answered
+abbrev pub RefusesLine : ℕ → WireErr → Reply → Type 0
+RefusesLine id (wire.Code code n) given = given ≡ reply.Refused id code n
+RefusesLine id wire.NoMemory given = ⊥

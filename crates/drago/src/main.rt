@@ -1,11 +1,14 @@
 //! The program: a reasoner for Distributed Description Logics that answers request lines with proved verdicts.
 //!
-//! `alone` has the top call, `turn` answers one line, `session` one request; `numbers`, `version` and `walk` decide
-//! questions between names. What the top call promises is `specs/Headline.antt`.
+//! `alone` has the top call, `turn` answers one line, `session` one request, with `refusal` and `judge` for two kinds of
+//! replies; `version`, `rows` and `walk` decide questions between names. What the top call promises is
+//! `specs/Headline.antt`.
 #![tactic(auto)]
 
 mod alone;
-mod numbers;
+mod judge;
+mod refusal;
+mod rows;
 mod session;
 mod status;
 mod turn;

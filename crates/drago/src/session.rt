@@ -1,38 +1,50 @@
-ghost use Rattle.std.specs.Prelude.{◌≡◌, ℕ, ◌∷◌, [], List, true, false, IfOk, IfSome, IsSome, MatchOption, length, Ok};
+ghost use Rattle.std.specs.Prelude.{◌≡◌, ◌<◌, ◌≤◌, ◌+◌, ◌^◌, ℕ, ◌∷◌, [], List, All, true, false, IfOk, IfSome, IsSome, length, Ok, slice_get, Some, cond};
 ghost use Rattle.std.specs.Option.{ForSome};
-ghost use Rattle.dd_text.specs.Names.{names_a_thing};
-ghost use Rattle.drago.specs.Session.{is_one_name};
+ghost use Rattle.serde_json.specs.View.{view};
+ghost use Rattle.dd_text.specs.Symbols.{SymbolLists, Grows};
+ghost use Rattle.dd_wire.specs.Forms.{written_of};
+ghost use Rattle.dd_wire.specs.Placed.{are_peers};
+ghost use Rattle.dd_wire.specs.Refusal.{Tested};
+ghost use Rattle.drago.specs.Above.{is_plain};
+ghost use Rattle.drago.specs.History.{empty_version};
+ghost use Rattle.drago.specs.IsIndexed.{IsIndexed};
+ghost use Rattle.drago.specs.Does.{CutsTo};
 
-use crate::numbers::{number_axioms, number_pair};
-use crate::version::Version;
+use crate::judge::judge;
+use crate::refusal::{refused, refused_line, refused_version};
+use crate::version::{Version, name_of};
 use crate::walk::reaches;
 use dd_concept::{Items, NoMemory};
-use dd_text::{NameErr, Symbols, is_name};
-use dd_wire::{NOT_BUILT, Pin, Reply, Request, Text};
+use dd_peer::{PeerVersion, Pinned, Query, Shared};
+use dd_text::{Mark, Symbols};
+use dd_wire::{
+    BAD_PIN, Form, NOT_BUILT, Names, Pin, Reply, Request, Text, is_accepted_form, resolve,
+};
+use serde_json::Value;
 use std::alloc::Global;
 
-/// The most axioms of a put.
-const MOST_AXIOMS: usize = 2000;
-
-/// What a session knows between requests: the texts that stand for numbers, the declared peer, and its version.
+/// What a session knows between requests: the texts that stand for numbers, the declared peers, and the version of the
+/// only one.
 #[derive(Drop)]
 pub struct Session {
     pub symbols: Symbols,
-    pub peer: Option<Text>,
+    pub names: Option<Names>,
     pub put: Option<Version>,
-    ghost named: { ForSome peer (λ name. names_a_thing name ≡ true) },
+    ghost only: { ForSome names (λ ns. length ns ≡ 1) },
 }
 
 impl Session {
     ghost use Rattle.dd_wire.specs.Replies.{IsPrintable};
+    ghost use Rattle.dd_wire.specs.Requests.{IsNumbered};
     ghost use Rattle.dd_wire.specs.declared.request.Request.TheVariants as request;
-    ghost use Rattle.drago.specs.Session.{start, is_declared, is_first_put, placed, Answered};
-    ghost use Rattle.dd_wire.specs.Named.{HasNames};
-    ghost use Rattle.drago.specs.SessionState.{state_of, pairs_of};
-    ghost use Rattle.drago.specs.History.{pin_of};
-    ghost use Rattle.drago.specs.World.{Answer, Answers};
-    ghost use Rattle.drago.specs.Above.{row_of, rights_of, are_below};
+    ghost use Rattle.drago.specs.Session.{start, is_open, is_built, names_of};
+    ghost use Rattle.dd_wire.specs.Accepted.{is_accepted};
+    ghost use Rattle.drago.specs.IsIndexed.{IsIndexed};
+    ghost use Rattle.drago.specs.SessionState.{state_of};
+    ghost use Rattle.drago.specs.History.{pin_of, is_pin, pinned_by, version_at, present_version, last_version};
+    ghost use Rattle.drago.specs.Above.{is_plain};
     ghost use Rattle.drago.specs.Verdict.{Decides};
+    ghost use Rattle.drago.specs.Does.{Does, Fits, AnsweredForm, AsksNames};
 
     /// The session before its first request.
     pub fn new(alloc: Global) -> Result<Session, NoMemory>
@@ -40,167 +52,282 @@ impl Session {
     {
         Ok(Session {
             symbols: Symbols::new(alloc)?,
-            peer: None,
+            names: None,
             put: None,
         })
     }
 
-    /// Answers a request, whose number is `id`. A refused one changes nothing.
-    pub fn accept(&mut self, alloc: Global, id: u64, request: Request) -> Result<Reply, NoMemory>
-        requires { HasNames request }
-        ensures answered { IfOk result (λ reply. Answered (state_of self.old) id (placed (state_of self.old) request) (state_of self.new) reply) }
+    /// Whether a form is one that is accepted so far.
+    pub fn is_built(&self, form: &Form) -> bool
+        ensures { result ≡ is_built (state_of self.now) (written_of form.now) }
+    {
+        is_accepted_form(self.names.as_ref(), form) && self.is_open(form)
+    }
+
+    fn is_open(&self, form: &Form) -> bool
+        requires { is_accepted (state_of self.now).peers (written_of form.now) ≡ true }
+        ensures { result ≡ is_open (state_of self.now) (written_of form.now) }
+    {
+        match form {
+            Form::Put { .. } => self.put.is_none(),
+            Form::Ask { .. } => self.is_plain(),
+            Form::Peers(_) => true,
+            Form::Check { .. } => true,
+            Form::Versions => true,
+        }
+    }
+
+    /// Answers a form that is accepted, as the request whose number is `id`. A refused one changes nothing.
+    pub fn accept(&mut self, alloc: Global, id: u64, form: Form) -> Result<Reply, NoMemory>
+        requires { is_built (state_of self.old) (written_of form) ≡ true }
+        ensures answered { IfOk result (AnsweredForm (state_of self.old) id (written_of form) (state_of self.new)) }
+        ensures printable { IfOk result IsPrintable }
+    {
+        let mark = self.symbols.mark();
+        match resolve(alloc, &mut self.symbols, self.names.as_ref(), form) {
+            Ok(request) => self.answer(alloc, id, mark, request),
+            Err(e) => refused_line(id, e),
+        }
+    }
+
+    /// Answers a request, whose symbols came behind the mark.
+    fn answer(
+        &mut self,
+        alloc: Global,
+        id: u64,
+        mark: Mark,
+        request: Request,
+    ) -> Result<Reply, NoMemory>
+        requires fits { Fits (state_of self.old) request }
+        requires numbered { IsNumbered request }
+        requires names { mark.names ≤ length self.old.symbols.names }
+        requires roles { mark.roles ≤ length self.old.symbols.roles }
+        ensures does { IfOk result (λ reply. (before : SymbolLists) → CutsTo mark self.old.symbols before
+            → Does (record (state_of self.old) { symbols = before }) id self.old.symbols request (state_of self.new) reply) }
         ensures printable { IfOk result IsPrintable }
     {
         match request {
-            Request::Peers(names) => Ok(self.declare(id, names)),
-            Request::Put { peer, axioms } => self.put(alloc, id, peer, axioms),
-            Request::Ask { peer, left, right } => self.ask(alloc, id, peer, left, right),
+            Request::Peers(names) => self.declare(alloc, id, &names),
+            Request::Put { peer, version } => self.put(alloc, id, mark, peer, version),
+            Request::Ask { query, .. } => self.ask(alloc, id, &query),
+            Request::Check { query, pin, cert } => self.check(alloc, id, mark, &query, &pin, &cert),
+            Request::Versions => Ok(refused(id, NOT_BUILT)),
         }
     }
 
-    fn declare(&mut self, id: u64, names: Items<Text>) -> Reply
-        ensures answered { Answered (state_of self.old) id (placed (state_of self.old) (request.Peers names)) (state_of self.new) result }
-        ensures printable { IsPrintable result }
+    fn declare(&mut self, alloc: Global, id: u64, names: &Items<Text>) -> Result<Reply, NoMemory>
+        requires peers { are_peers names.now ≡ true }
+        requires one { length names.now ≡ 1 }
+        ensures does { IfOk result (Does (state_of self.old) id self.old.symbols (request.Peers names.now) (state_of self.new)) }
+        ensures printable { IfOk result IsPrintable }
     {
-        if self.peer.is_some() {
-            return not_built(id);
-        }
-        match only_name(names) {
-            Some(name) => {
-                self.peer = Some(name);
-                Reply::Peers { id, count: 1 }
-            }
-            None => not_built(id),
-        }
-    }
-
-    fn is_declared(&self, peer: &[u8]) -> bool
-        ensures { result ≡ is_declared (state_of self.now) peer.now }
-    {
-        match &self.peer {
-            Some(name) => peer == name.as_slice(),
-            None => false,
-        }
-    }
-
-    fn is_first_put(&self, peer: &[u8], axioms: &[(Text, Text)]) -> bool
-        ensures { result ≡ is_first_put (state_of self.now) peer.now axioms.now }
-    {
-        self.is_declared(peer) && self.put.is_none() && axioms.len() <= MOST_AXIOMS
+        self.names = Some(Names::new(alloc, names)?);
+        Ok(Reply::Peers { id, count: 1 })
     }
 
     fn put(
         &mut self,
         alloc: Global,
         id: u64,
-        peer: Text,
-        axioms: Items<(Text, Text)>,
+        mark: Mark,
+        peer: u32,
+        version: PeerVersion,
     ) -> Result<Reply, NoMemory>
-        requires { HasNames (request.Put peer axioms) }
-        ensures answered { IfOk result (λ reply. Answered (state_of self.old) id (placed (state_of self.old) (request.Put peer axioms)) (state_of self.new) reply) }
+        requires fits { Fits (state_of self.old) (request.Put peer version) }
+        requires numbered { IsNumbered (request.Put peer version) }
+        requires names { mark.names ≤ length self.old.symbols.names }
+        requires roles { mark.roles ≤ length self.old.symbols.roles }
+        ensures does { IfOk result (λ reply. (before : SymbolLists) → CutsTo mark self.old.symbols before
+            → Does (record (state_of self.old) { symbols = before }) id self.old.symbols (request.Put peer version) (state_of self.new) reply) }
         ensures printable { IfOk result IsPrintable }
     {
-        if !self.is_first_put(peer.as_slice(), axioms.as_slice()) {
-            return Ok(not_built(id));
+        let Some(names) = &self.names else {
+            unreachable!();
+        };
+        if let Err(e) = version.check(names.len(), peer) {
+            self.symbols.back(mark);
+            return Ok(refused_version(id, e));
         }
-        match number_axioms(alloc, &mut self.symbols, axioms.as_slice()) {
-            Ok(pairs) => {
-                let version = Version::new(alloc, self.symbols.name_count(), pairs)?;
-                self.put = Some(version);
-                Ok(Reply::Put {
-                    id,
-                    put: peer,
-                    version: 1,
-                })
-            }
-            Err(NameErr::SymbolsFull) => Ok(not_built(id)),
-            Err(NameErr::NoMemory) => Err(NoMemory),
-            Err(NameErr::Bad) => unreachable!(),
-        }
+        let put = Items::from_slice(alloc, names.name(peer))?;
+        self.put = Some(Version::new(alloc, version)?);
+        Ok(Reply::Put {
+            id,
+            put,
+            version: 1,
+        })
     }
 
-    fn ask(
-        &mut self,
-        alloc: Global,
-        id: u64,
-        peer: Text,
-        left: Text,
-        right: Text,
-    ) -> Result<Reply, NoMemory>
-        requires { HasNames (request.Ask peer left right) }
-        ensures answered { IfOk result (λ reply. Answered (state_of self.old) id (placed (state_of self.old) (request.Ask peer left right)) (state_of self.new) reply) }
+    fn ask(&mut self, alloc: Global, id: u64, query: &Query) -> Result<Reply, NoMemory>
+        requires names { AsksNames query.now }
+        requires plain { is_plain (present_version 0 (state_of self.old).history) ≡ true }
+        requires declared { IsSome self.old.names }
+        ensures does { IfOk result (λ reply. (before : SymbolLists)
+            → Does (record (state_of self.old) { symbols = before }) id self.old.symbols (request.Ask query.now None None) (state_of self.new) reply) }
         ensures printable { IfOk result IsPrintable }
     {
-        if !self.is_declared(peer.as_slice()) {
-            return Ok(not_built(id));
-        }
-        match number_pair(alloc, &mut self.symbols, left.as_slice(), right.as_slice()) {
-            Ok(pair) => {
-                let yes = self.decide(alloc, pair.0, pair.1)?;
-                let pin = self.pin(alloc)?;
-                Ok(Reply::Decided { id, yes, pin })
-            }
-            Err(NameErr::SymbolsFull) => Ok(not_built(id)),
-            Err(NameErr::NoMemory) => Err(NoMemory),
-            Err(NameErr::Bad) => unreachable!(),
-        }
+        let yes = self.decide(alloc, query)?;
+        let pin = self.pin(alloc)?;
+        Ok(Reply::Decided { id, yes, pin })
     }
 
     /// Whether the right name is above the left one, at the present version.
-    fn decide(&self, alloc: Global, left: u32, right: u32) -> Result<bool, NoMemory>
-        ensures { IfOk result (Decides (pairs_of self.now.put) left right) }
+    fn decide(&self, alloc: Global, query: &Query) -> Result<bool, NoMemory>
+        requires names { AsksNames query.now }
+        requires plain { is_plain (present_version 0 (state_of self.now).history) ≡ true }
+        ensures { IfOk result (λ verdict. Decides (present_version 0 (state_of self.now).history) query.now verdict) }
     {
+        let Some(left) = name_of(&query.left) else {
+            unreachable!();
+        };
+        let Some(right) = name_of(&query.right) else {
+            unreachable!();
+        };
         reaches(alloc, self.above(), left, right)
     }
 
     /// The index of the present version.
     fn above(&self) -> &[Items<u32>]
-        ensures indexed { (name : ℕ) → row_of result.now name ≡ rights_of (pairs_of self.now.put) name }
-        ensures bounded { are_below (length result.now) (pairs_of self.now.put) ≡ true }
+        requires { is_plain (present_version 0 (state_of self.now).history) ≡ true }
+        ensures indexed { IsIndexed result.now (present_version 0 (state_of self.now).history) }
     {
         match &self.put {
-            Some(version) => version.above.as_slice(),
+            Some(version) => rows_of(version),
             None => &[],
         }
     }
 
     /// The present pin.
     fn pin(&self, alloc: Global) -> Result<Pin, NoMemory>
-        requires { IsSome self.now.peer }
-        ensures { IfOk result (λ pin. pin.versions ≡ pin_of (state_of self.now).peers (state_of self.now).history) }
+        requires { IsSome self.now.names }
+        ensures { IfOk result (λ pin. pin.versions ≡ pin_of (names_of (state_of self.now)) (state_of self.now).history) }
     {
         let mut versions = Items::new(alloc);
-        versions.push(if self.put.is_some() { 1 } else { 0 })?;
+        versions.push(self.last())?;
         Ok(Pin { versions })
     }
-}
 
-/// The name of a list with one name alone.
-fn only_name(names: Items<Text>) -> Option<Text>
-    ensures { MatchOption result (is_one_name names ≡ false) (λ name. (names ≡ name ∷ []) × (names_a_thing name ≡ true)) }
-{
-    let mut list = names.into_vec();
-    if list.len() != 1 {
-        return None;
+    /// The number of the last version of the only peer.
+    fn last(&self) -> u32
+        ensures { result ≡ last_version 0 (state_of self.now).history }
+    {
+        if self.put.is_some() { 1 } else { 0 }
     }
-    match list.pop() {
-        Some(name) => {
-            if is_name(name.as_slice()) {
-                Some(name)
-            } else {
-                None
-            }
+
+    fn check(
+        &mut self,
+        alloc: Global,
+        id: u64,
+        mark: Mark,
+        query: &Query,
+        pin: &Pin,
+        cert: &Value,
+    ) -> Result<Reply, NoMemory>
+        requires declared { IsSome self.old.names }
+        requires names { mark.names ≤ length self.old.symbols.names }
+        requires roles { mark.roles ≤ length self.old.symbols.roles }
+        ensures does { IfOk result (λ reply. (before : SymbolLists) → CutsTo mark self.old.symbols before
+            → Does (record (state_of self.old) { symbols = before }) id self.old.symbols (request.Check query.now pin.now cert.now) (state_of self.new) reply) }
+        ensures printable { IfOk result IsPrintable }
+    {
+        if !self.is_pin(pin) {
+            self.symbols.back(mark);
+            return Ok(refused(id, BAD_PIN));
         }
-        None => None,
+        let pinned = self.pinned(alloc, pin)?;
+        let reply = judge(alloc, &mut self.symbols, id, &pinned, query, cert)?;
+        self.symbols.back(mark);
+        Ok(reply)
+    }
+
+    /// Whether a pin has one number, that of a version of the only peer.
+    fn is_pin(&self, pin: &Pin) -> bool
+        requires { IsSome self.now.names }
+        ensures { result ≡ is_pin (names_of (state_of self.now)) pin.now.versions (state_of self.now).history }
+    {
+        match pin.versions.as_slice() {
+            [number] => *number <= self.last(),
+            _ => false,
+        }
+    }
+
+    /// The versions that a pin names.
+    fn pinned(&self, alloc: Global, pin: &Pin) -> Result<Pinned, NoMemory>
+        requires pin { is_pin (names_of (state_of self.now)) pin.now.versions (state_of self.now).history ≡ true }
+        requires declared { IsSome self.now.names }
+        ensures pinned { IfOk result (λ pinned. pinned ≡ pinned_by pin.now.versions (state_of self.now).history) }
+        ensures one { IfOk result (λ pinned. length pinned.peers ≡ 1) }
+        ensures axioms { IfOk result (λ pinned. All (λ v. length v.axioms < 2 ^ 32) pinned.peers) }
+        ensures rules { IfOk result (λ pinned. All (λ v. length v.into + length v.onto < 2 ^ 32) pinned.peers) }
+    {
+        match pin.versions.as_slice() {
+            [number] => self.pinned_at(alloc, *number),
+            _ => unreachable!(),
+        }
+    }
+
+    /// The version of the only peer with this number, alone.
+    fn pinned_at(&self, alloc: Global, number: u32) -> Result<Pinned, NoMemory>
+        requires { number ≤ last_version 0 (state_of self.now).history }
+        ensures pinned { IfOk result (λ pinned. pinned ≡ pinned_by (number ∷ []) (state_of self.now).history) }
+        ensures one { IfOk result (λ pinned. length pinned.peers ≡ 1) }
+        ensures axioms { IfOk result (λ pinned. All (λ v. length v.axioms < 2 ^ 32) pinned.peers) }
+        ensures rules { IfOk result (λ pinned. All (λ v. length v.into + length v.onto < 2 ^ 32) pinned.peers) }
+    {
+        let mut peers = Items::new(alloc);
+        peers.push(self.version_at(alloc, number)?)?;
+        Ok(Pinned { peers })
+    }
+
+    /// The version of the only peer with this number.
+    fn version_at(&self, alloc: Global, number: u32) -> Result<Shared<PeerVersion>, NoMemory>
+        requires { number ≤ last_version 0 (state_of self.now).history }
+        ensures version { IfOk result (λ v. v ≡ version_at 0 (state_of self.now).history number) }
+        ensures axioms { IfOk result (λ v. length v.axioms < 2 ^ 32) }
+        ensures rules { IfOk result (λ v. length v.into + length v.onto < 2 ^ 32) }
+    {
+        match &self.put {
+            Some(put) => {
+                if number == 0 {
+                    empty_version(alloc)
+                } else {
+                    put.version.share()
+                }
+            }
+            None => empty_version(alloc),
+        }
+    }
+
+    /// Whether the present version has axioms between names alone and no rules.
+    fn is_plain(&self) -> bool
+        ensures { result ≡ is_plain (present_version 0 (state_of self.now).history) }
+    {
+        match &self.put {
+            Some(version) => version.index.is_some(),
+            None => true,
+        }
     }
 }
 
-fn not_built(id: u64) -> Reply
-    ensures { result ≡ Reply.Refused id 17 None }
+fn empty_version(alloc: Global) -> Result<Shared<PeerVersion>, NoMemory>
+    ensures { IfOk result (λ v. v ≡ empty_version) }
 {
-    Reply::Refused {
-        id,
-        code: NOT_BUILT,
-        n: None,
+    Shared::new(
+        alloc,
+        PeerVersion {
+            axioms: Items::new(alloc),
+            into: Items::new(alloc),
+            onto: Items::new(alloc),
+        },
+    )
+}
+
+/// The index of a version that has one.
+fn rows_of(version: &Version) -> &[Items<u32>]
+    requires { is_plain version.now.version ≡ true }
+    ensures { IsIndexed result.now version.now.version }
+{
+    match &version.index {
+        Some(index) => index.above.as_slice(),
+        None => unreachable!(),
     }
 }

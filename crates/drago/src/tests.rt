@@ -6,6 +6,11 @@ use dd_lines::{MemSink, MemSource};
 use std::alloc::Global;
 use std::test::Fail;
 
+mod certificates;
+mod checks;
+mod limits;
+mod refusals;
+
 const PEERS: &str = r#"{"op":"peers","names":["a"]}
 "#;
 
@@ -54,6 +59,14 @@ fn breaks(alloc: Global, capacity: usize, reads: &[u64], writes: &[u64]) -> Resu
     told(alloc, &["alone"], &mut source, &mut sink)
 }
 
+/// What a session gives that begins so and then checks A under C.
+fn after_check(alloc: Global, begin: &str, pin: &str, cert: &str) -> Result<Vec<u8>, Fail> {
+    let input = format!(in alloc;
+        r#"{begin}{{"op":"check","peer":"a","left":"A","right":"C","pin":{pin},"cert":{cert}}}"#
+    )?;
+    answers(alloc, input.as_bytes(), 4096)
+}
+
 #[test]
 fn each_line_with_a_byte_is_a_request(rt: HostRuntime) -> Result<(), Fail> {
     for (input, want) in [
@@ -62,7 +75,7 @@ fn each_line_with_a_byte_is_a_request(rt: HostRuntime) -> Result<(), Fail> {
         ("\r", "0"),
         (
             "\n{\"op\":\"peers\",\"names\":[\"a\"]}\r\n\r\n\nnull",
-            "{\"id\":1,\"peers\":1}\n{\"code\":17,\"error\":\"not_built\",\"id\":2}\n0",
+            "{\"id\":1,\"peers\":1}\n{\"code\":2,\"error\":\"bad_shape\",\"id\":2}\n0",
         ),
         (
             " \n\r\r",
@@ -154,44 +167,19 @@ fn an_ask_before_the_put_knows_no_axiom(rt: HostRuntime) -> Result<(), Fail> {
 }
 
 #[test]
-fn a_refused_line_changes_nothing(rt: HostRuntime) -> Result<(), Fail> {
-    for (line, code, error) in [
-        (b"null".as_slice(), 17, "not_built"),
-        (
-            b"{\"op\":\"peers\",\"names\":[\"b\"]}".as_slice(),
-            17,
-            "not_built",
-        ),
-        (
-            b"{\"op\":\"put\",\"peer\":\"a\"}".as_slice(),
-            17,
-            "not_built",
-        ),
-        (
-            b"{\"op\":\"put\",\"peer\":\"a\",\"into\":[{\"from\":\"a\",\"source\":\"A\",\"target\":\"B\"}]}".as_slice(),
-            17,
-            "not_built",
-        ),
-        (
-            b"{\"op\":\"ask\",\"peer\":\"b\",\"left\":\"A\",\"right\":\"C\"}".as_slice(),
-            17,
-            "not_built",
-        ),
-        (
-            b"{\"op\":\"ask\",\"peer\":\"a\",\"left\":\"A\",\"right\":\"top\"}".as_slice(),
-            17,
-            "not_built",
-        ),
-        (b"{\"op\":\"ask\",\"peer\":\"a\"".as_slice(), 1, "bad_json"),
-        (b"null null".as_slice(), 1, "bad_json"),
-        (b"\"\xff\"".as_slice(), 1, "bad_json"),
+fn a_line_that_is_no_value_changes_nothing(rt: HostRuntime) -> Result<(), Fail> {
+    for line in [
+        b"{\"op\":\"ask\",\"peer\":\"a\"".as_slice(),
+        b"null null".as_slice(),
+        b"\"\xff\"".as_slice(),
+        b"{\"op\":\"peers\",\"names\":[\"\xc3\"]}".as_slice(),
     ] {
         let mut input = format!(in rt.alloc(); "{}{}", PEERS, PUT)?.into_bytes();
         input.extend_from_slice(line)?;
         input.push(b'\n')?;
         input.extend_from_slice(ASK.as_bytes())?;
         let want = format!(in rt.alloc();
-            "{}{{\"code\":{code},\"error\":\"{error}\",\"id\":3}}\n{{\"id\":4,\"pin\":[1],\"verdict\":\"yes\"}}\n0",
+            "{}{{\"code\":1,\"error\":\"bad_json\",\"id\":3}}\n{{\"id\":4,\"pin\":[1],\"verdict\":\"yes\"}}\n0",
             &REPLIES[..50]
         )?;
         let got = answers(rt.alloc(), input.as_slice(), 4096)?;

@@ -2,18 +2,17 @@ ghost use Rattle.std.specs.Prelude.{◌≡◌, ℕ, ◌+◌, ◌<◌, ◌≤◌,
 ghost use Rattle.std.specs.Option.{option_to_list};
 ghost use Rattle.dd_lines.specs.NextLine.{Spells};
 ghost use Rattle.dd_lines.specs.Outside.{Rose, Gives, GivesFront};
-ghost use Rattle.dd_wire.specs.Lines.{IsRefused};
-ghost use Rattle.dd_wire.specs.Refusal.{Tested};
-ghost use Rattle.dd_wire.specs.declared.request.Request.{Request};
 ghost use Rattle.dd_wire.specs.Replies.{IsPrintable, reply_text};
-ghost use Rattle.drago.specs.Session.{is_blank, longest_line, tested, Answered, Turn, written};
+ghost use Rattle.drago.specs.Session.{is_blank, longest_line, Turn, written};
 ghost use Rattle.drago.specs.SessionState.{state_of};
-ghost use Rattle.drago.specs.Turns.{standing, IsLine, IsRefusal, Turned, BreaksOff};
+ghost use Rattle.drago.specs.Turns.{standing, IsLine, Turned, BreaksOff};
+ghost use Rattle.drago.specs.Does.{AnsweredLine};
 
+use crate::refusal::{refused, refused_line};
 use crate::session::Session;
 use dd_concept::NoMemory;
 use dd_lines::{LineStep, Sink, write_whole};
-use dd_wire::{LINE_TOO_LONG, Reply, WireErr, print_reply, read_request};
+use dd_wire::{LINE_TOO_LONG, NOT_BUILT, Reply, print_reply, read_form};
 use std::alloc::Global;
 
 /// Why a line got no reply.
@@ -94,11 +93,7 @@ fn reply_to(
         }
         LineStep::TooLong => {
             *requests += 1;
-            Ok(Some(Reply::Refused {
-                id: *requests,
-                code: LINE_TOO_LONG,
-                n: None,
-            }))
+            Ok(Some(refused(*requests, LINE_TOO_LONG)))
         }
         LineStep::End => unreachable!(),
     }
@@ -111,23 +106,17 @@ fn reply_to_request(
     id: u64,
     line: &[u8],
 ) -> Result<Reply, NoMemory>
-    ensures answered { IfOk result (λ reply. length line.now ≤ longest_line → Answered (state_of session.old) id (tested (state_of session.old) line.now) (state_of session.new) reply) }
+    ensures answered { IfOk result (λ reply. length line.now ≤ longest_line → AnsweredLine (state_of session.old) id line.now (state_of session.new) reply) }
     ensures printable { IfOk result IsPrintable }
 {
-    match read_request(alloc, line) {
-        Ok(request) => session.accept(alloc, id, request),
-        Err(e) => refusal(id, e),
+    let form = match read_form(alloc, line) {
+        Ok(form) => form,
+        Err(e) => return refused_line(id, e),
+    };
+    if !session.is_built(&form) {
+        return Ok(refused(id, NOT_BUILT));
     }
-}
-
-/// The reply to a line that is no request, for this reason.
-fn refusal(id: u64, e: WireErr) -> Result<Reply, NoMemory>
-    ensures { IfOk result (λ reply. (found : Tested Request) → IsRefused e found → IsRefusal id found reply) }
-{
-    match e {
-        WireErr::Code { code, n } => Ok(Reply::Refused { id, code, n }),
-        WireErr::NoMemory => Err(NoMemory),
-    }
+    session.accept(alloc, id, form)
 }
 
 /// Whether a line has no byte, or one carriage return alone.

@@ -1,53 +1,81 @@
-ghost use Rattle.std.specs.Prelude.{◌≡◌, ℕ, ◌<◌, ◌∷◌, ◌++◌, List, [], All, IfOk, OnOk, OnErr, length, vec_len, replicate, slice_set, true};
-ghost use Rattle.std.specs.List.{slice_index_or};
-ghost use Rattle.drago.specs.Above.{rights_of, are_below};
+ghost use Rattle.std.specs.Prelude.{◌≡◌, ◌<◌, ◌+◌, ◌^◌, IfOk, MatchOption, length, map, false};
+ghost use Rattle.std.specs.List.{list_all};
+ghost use Rattle.std.specs.Option.{ForSome, ForNone};
+ghost use Rattle.dd_concept.specs.declared.concept.Concept.TheVariants.{Name};
+ghost use Rattle.drago.specs.Above.{axiom_of_pair, version_of_pairs, is_atomic, is_between_names, is_plain};
 
-use dd_concept::{Items, NoMemory};
+use crate::rows::Index;
+use dd_concept::{Axiom, Concept, Items, NoMemory};
+use dd_peer::{PeerVersion, Shared};
 use std::alloc::Global;
 
-/// A version with axioms between names, and an index from each name to the right sides of its axioms.
+/// A version that was put, with its index where it has axioms between names alone and no rules.
 #[derive(Drop)]
 pub struct Version {
-    pub pairs: Items<(u32, u32)>,
-    pub above: Items<Items<u32>>,
-    ghost indexed: { (name : ℕ) → slice_index_or above name [] ≡ rights_of pairs name },
-    ghost bounded: { are_below (length above) pairs ≡ true },
+    pub version: Shared<PeerVersion>,
+    pub index: Option<Index>,
+    ghost plain: { ForSome index (λ i. version ≡ version_of_pairs i.pairs) },
+    ghost other: { ForNone index (is_plain version ≡ false) },
+    ghost axioms: { length version.axioms < 2 ^ 32 },
+    ghost rules: { length version.into + length version.onto < 2 ^ 32 },
 }
 
 impl Version {
-    /// The version with these axioms, each as the numbers of its left and of its right name, which are below `names`.
-    pub fn new(alloc: Global, names: u32, pairs: Items<(u32, u32)>) -> Result<Version, NoMemory>
-        requires { All (λ p. (p.0 < names) × (p.1 < names)) pairs }
-        ensures { IfOk result (λ v. v.pairs ≡ pairs) }
+    /// A version as it is put.
+    pub fn new(alloc: Global, version: PeerVersion) -> Result<Version, NoMemory>
+        requires axioms { length version.axioms < 2 ^ 32 }
+        requires rules { length version.into + length version.onto < 2 ^ 32 }
+        ensures { IfOk result (λ v. v.version ≡ version) }
     {
-        let mut rows = empty_rows(alloc, names)?;
-        for pair in pairs.as_slice() {
-            put_above(&mut rows, pair.0, pair.1)?;
-        }
+        let index = index_of(alloc, &version)?;
         Ok(Version {
-            pairs,
-            above: Items::from_vec(rows),
+            version: Shared::new(alloc, version)?,
+            index,
         })
     }
 }
 
-/// One empty row for each name.
-fn empty_rows(alloc: Global, names: u32) -> Result<Vec<Items<u32>>, NoMemory>
-    ensures { IfOk result (λ rows. rows.items ≡ replicate names []) }
+/// The index of a version, where it has one.
+fn index_of(alloc: Global, version: &PeerVersion) -> Result<Option<Index>, NoMemory>
+    ensures { IfOk result (λ found. MatchOption found (is_plain version.now ≡ false) (λ index. version.now ≡ version_of_pairs index.pairs)) }
 {
-    let mut rows = Vec::new(alloc);
-    for _ in 0..names {
-        rows.push(Items::new(alloc))?;
+    if !version.into.as_slice().is_empty() || !version.onto.as_slice().is_empty() {
+        return Ok(None);
     }
-    Ok(rows)
+    match pairs_of(alloc, version.axioms.as_slice())? {
+        Some(pairs) => Ok(Some(Index::new(alloc, pairs)?)),
+        None => Ok(None),
+    }
 }
 
-/// Puts a name behind those above another one.
-fn put_above(rows: &mut Vec<Items<u32>>, name: u32, right: u32) -> Result<(), NoMemory>
-    requires { name < vec_len rows.old }
-    ensures { OnOk result (rows.new.items ≡ slice_set rows.old.items name (slice_index_or rows.old.items name [] ++ right ∷ [])) }
+/// The axioms as pairs of names, where each is between names.
+fn pairs_of(alloc: Global, axioms: &[Axiom]) -> Result<Option<Items<(u32, u32)>>, NoMemory>
+    ensures { IfOk result (λ found. MatchOption found (list_all is_between_names axioms.now ≡ false) (λ pairs. axioms.now ≡ map axiom_of_pair pairs)) }
 {
-    let row = &mut rows[name as usize];
-    row.push(right)?;
-    Ok(())
+    let mut pairs = Items::new(alloc);
+    for implication in axioms {
+        match pair_of(implication) {
+            Some(pair) => pairs.push(pair)?,
+            None => return Ok(None),
+        }
+    }
+    Ok(Some(pairs))
+}
+
+fn pair_of(implication: &Axiom) -> Option<(u32, u32)>
+    ensures { MatchOption result (is_between_names implication.now ≡ false) (λ pair. implication.now ≡ axiom_of_pair pair) }
+{
+    let left = name_of(&implication.left)?;
+    let right = name_of(&implication.right)?;
+    Some((left, right))
+}
+
+/// The number of a concept that is a name.
+pub fn name_of(concept: &Concept) -> Option<u32>
+    ensures { MatchOption result (is_atomic concept.now ≡ false) (λ a. concept.now ≡ Name a) }
+{
+    match concept {
+        Concept::Name(a) => Some(*a),
+        _ => None,
+    }
 }

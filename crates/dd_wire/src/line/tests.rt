@@ -1,39 +1,66 @@
 use super::*;
-use crate::request::Text;
+use crate::form::RuleForm;
+use dd_concept::Items;
+use dd_json::Text;
 use std::test::Fail;
 
-// The texts of a request, or the code of the refusal.
+// What the form of a line says, or the code of the refusal.
 fn told(alloc: Global, line: &[u8]) -> Result<Vec<u8>, NoMemory> {
-    match read_request(alloc, line) {
-        Ok(request) => shown(alloc, &request),
+    match read_form(alloc, line) {
+        Ok(form) => shown(alloc, &form),
         Err(WireErr::Code { code, n: _ }) => Ok(format!(in alloc; "{code}")?.into_bytes()),
         Err(WireErr::NoMemory) => Err(NoMemory),
     }
 }
 
-fn shown(alloc: Global, request: &Request) -> Result<Vec<u8>, NoMemory> {
+fn shown(alloc: Global, form: &Form) -> Result<Vec<u8>, NoMemory> {
     let mut out = Vec::new(alloc);
-    match request {
-        Request::Peers(names) => {
+    match form {
+        Form::Peers(names) => {
             out.extend_from_slice(b"peers")?;
-            for name in names.as_slice() {
-                show(&mut out, name)?;
-            }
+            show_all(&mut out, names)?;
         }
-        Request::Put { peer, axioms } => {
+        Form::Put {
+            peer,
+            axioms,
+            into,
+            onto,
+        } => {
             out.extend_from_slice(b"put")?;
             show(&mut out, peer)?;
-            for axiom in axioms.as_slice() {
-                show(&mut out, &axiom.0)?;
-                show(&mut out, &axiom.1)?;
-            }
+            show_all(&mut out, axioms)?;
+            out.extend_from_slice(b" into")?;
+            show_rules(&mut out, into)?;
+            out.extend_from_slice(b" onto")?;
+            show_rules(&mut out, onto)?;
         }
-        Request::Ask { peer, left, right } => {
+        Form::Ask {
+            peer,
+            left,
+            right,
+            expansions,
+            verdicts,
+        } => {
             out.extend_from_slice(b"ask")?;
-            show(&mut out, peer)?;
-            show(&mut out, left)?;
-            show(&mut out, right)?;
+            show_query(&mut out, peer, left, right)?;
+            show_number(alloc, &mut out, *expansions)?;
+            show_number(alloc, &mut out, *verdicts)?;
         }
+        Form::Check {
+            peer,
+            left,
+            right,
+            pin,
+            cert,
+        } => {
+            out.extend_from_slice(b"check")?;
+            show_query(&mut out, peer, left, right)?;
+            for version in pin.as_slice() {
+                show_number(alloc, &mut out, Some(*version as u64))?;
+            }
+            show_kind(&mut out, cert)?;
+        }
+        Form::Versions => out.extend_from_slice(b"versions")?,
     }
     Ok(out)
 }
@@ -43,53 +70,83 @@ fn show(out: &mut Vec<u8>, text: &Text) -> Result<(), NoMemory> {
     out.extend_from_slice(text.as_slice())
 }
 
+fn show_all(out: &mut Vec<u8>, texts: &Items<Text>) -> Result<(), NoMemory> {
+    for text in texts.as_slice() {
+        show(out, text)?;
+    }
+    Ok(())
+}
+
+fn show_rules(out: &mut Vec<u8>, rules: &Items<RuleForm>) -> Result<(), NoMemory> {
+    for rule in rules.as_slice() {
+        show_query(out, &rule.from, &rule.source, &rule.target)?;
+    }
+    Ok(())
+}
+
+fn show_query(out: &mut Vec<u8>, peer: &Text, left: &Text, right: &Text) -> Result<(), NoMemory> {
+    show(out, peer)?;
+    show(out, left)?;
+    show(out, right)
+}
+
+fn show_number(alloc: Global, out: &mut Vec<u8>, number: Option<u64>) -> Result<(), NoMemory> {
+    match number {
+        Some(n) => {
+            let text = format!(in alloc; " {n}")?;
+            out.extend_from_slice(text.as_bytes())
+        }
+        None => out.extend_from_slice(b" -"),
+    }
+}
+
+fn show_kind(out: &mut Vec<u8>, cert: &Value) -> Result<(), NoMemory> {
+    out.extend_from_slice(b" cert ")?;
+    match cert.get("kind").and_then(Value::as_str) {
+        Some(kind) => out.extend_from_slice(kind.as_bytes()),
+        None => out.extend_from_slice(b"-"),
+    }
+}
+
 #[test]
-fn a_line_is_a_request_of_one_form_or_not_built(rt: HostRuntime) -> Result<(), Fail> {
+fn a_line_has_one_of_the_forms(rt: HostRuntime) -> Result<(), Fail> {
     for (line, expected) in [
         (r#"{"op":"peers","names":["a","p-1"]}"#, "peers a p-1"),
-        (r#"{"names":[],"op":"peers"}"#, "peers"),
+        (r#" { "names" : [] , "op" : "peers" } "#, "peers"),
+        (r#"{"op":"versions"}"#, "versions"),
+        (r#"{"op":"put","peer":"a"}"#, "put a into onto"),
         (
-            r#"{"op":"put","peer":"a","axioms":["(implies A B)","(implies B C)"]}"#,
-            "put a A B B C",
-        ),
-        (r#"{"peer":"a","op":"put"}"#, "put a"),
-        (
-            r#" {"onto":[],"into":[],"axioms":[],"peer":"a","op":"put"} "#,
-            "put a",
+            r#"{"peer":"a","axioms":["A","(x"],"op":"put","onto":[]}"#,
+            "put a A (x into onto",
         ),
         (
-            r#"{"op":"ask","peer":"a","left":"A","right":"C"}"#,
-            "ask a A C",
+            r#"{"op":"put","peer":"a","into":[{"from":"b","source":"A","target":"B"},{"target":"","source":"C","from":"c"}],"onto":[{"from":"d","source":"D","target":"E"}]}"#,
+            "put a into b A B c C  onto d D E",
         ),
         (
-            r#"{"right":"C","left":"\u0041","peer":"a","op":"ask"}"#,
-            "ask a A C",
+            r#"{"op":"ask","peer":"a","left":"\u0041","right":"C"}"#,
+            "ask a A C - -",
         ),
         (
-            r#"{"op":"ask","op":"peers","names":["a"],"names":["b"]}"#,
+            r#"{"op":"ask","peer":"a","left":"A","right":"C","expansions":0}"#,
+            "ask a A C 0 -",
+        ),
+        (
+            r#"{"op":"ask","peer":"a","left":"A","right":"C","verdicts":18446744073709551615}"#,
+            "ask a A C - 18446744073709551615",
+        ),
+        (
+            r#"{"op":"check","peer":"a","left":"A","right":"B","pin":[],"cert":null}"#,
+            "check a A B cert -",
+        ),
+        (
+            r#"{"cert":{"kind":"no"},"op":"check","peer":"a","left":"A","right":"B","pin":[0,4294967295]}"#,
+            "check a A B 0 4294967295 cert no",
+        ),
+        (
+            r#"{"op":"ask","names":1,"op":"peers","names":["a"],"names":["b"]}"#,
             "peers b",
         ),
-        (r#"{"op":"peers","names":[],"x":1}"#, "17"),
-        (r#"{"op":"ask","peer":"a","left":"A"}"#, "17"),
-        (r#"{"op":"peers","names":"a"}"#, "17"),
-        (r#"{"op":"peers","names":["a",1]}"#, "17"),
-        (r#"{"op":"put","peer":"a","into":null}"#, "17"),
-        (
-            r#"{"op":"put","peer":"a","into":[{"from":"b","source":"A","target":"B"}]}"#,
-            "17",
-        ),
-        (
-            r#"{"op":"ask","peer":"a","left":"A","right":"(not B)"}"#,
-            "17",
-        ),
-        (
-            r#"{"op":"ask","peer":"a","left":"A","right":"B","verdicts":1}"#,
-            "17",
-        ),
-        (r#"{"op":"versions"}"#, "17"),
-        (r#"["op","peers"]"#, "17"),
-        ("1.0", "17"),
-        ("null", "17"),
     ] {
         let got = told(rt.alloc(), line.as_bytes())?;
         assert_eq!(rt; got.as_slice(), expected.as_bytes(), "at {line}");
@@ -98,41 +155,42 @@ fn a_line_is_a_request_of_one_form_or_not_built(rt: HostRuntime) -> Result<(), F
 }
 
 #[test]
-fn an_axiom_has_two_names_and_single_spaces(rt: HostRuntime) -> Result<(), Fail> {
-    let longest = "A234567890123456789012345678901234567890123456789012345678901234";
-    for (axiom, expected) in [
-        ("(implies A B)", "put a A B"),
-        ("(implies A  B)", "17"),
-        ("(implies  A B)", "17"),
-        ("(implies A B )", "17"),
-        ("(implies A B) ", "17"),
-        ("(implies A top)", "17"),
-        ("(implies not B)", "17"),
-        ("(implies A)", "17"),
-        ("(implies A 1)", "17"),
-        ("(subrole A B)", "17"),
-        ("(implies A (not B))", "17"),
-        ("", "17"),
+fn a_value_of_another_shape_has_no_form(rt: HostRuntime) -> Result<(), Fail> {
+    for line in [
+        "null",
+        "1.0",
+        r#"["op","versions"]"#,
+        "{}",
+        r#"{"op":"version"}"#,
+        r#"{"op":["versions"]}"#,
+        r#"{"op":"versions","peer":"a"}"#,
+        r#"{"op":"peers"}"#,
+        r#"{"op":"peers","names":"a"}"#,
+        r#"{"op":"peers","names":["a",1]}"#,
+        r#"{"op":"peers","names":[],"x":1}"#,
+        r#"{"op":"put","axioms":[]}"#,
+        r#"{"op":"put","peer":"a","axioms":null}"#,
+        r#"{"op":"put","peer":"a","into":[1]}"#,
+        r#"{"op":"put","peer":"a","into":{}}"#,
+        r#"{"op":"put","peer":"a","onto":[{"from":"b","source":"A"}]}"#,
+        r#"{"op":"put","peer":"a","onto":[{"from":"b","source":"A","target":"B","x":1}]}"#,
+        r#"{"op":"put","peer":"a","left":"A"}"#,
+        r#"{"op":"ask","peer":"a","left":"A"}"#,
+        r#"{"op":"ask","peer":"a","left":"A","right":"B","pin":[]}"#,
+        r#"{"op":"ask","peer":"a","left":"A","right":"B","verdicts":1.0}"#,
+        r#"{"op":"ask","peer":"a","left":"A","right":"B","verdicts":-0}"#,
+        r#"{"op":"ask","peer":"a","left":"A","right":"B","verdicts":1e3}"#,
+        r#"{"op":"ask","peer":"a","left":"A","right":"B","expansions":18446744073709551616}"#,
+        r#"{"op":"ask","peer":"a","left":"A","right":"B","expansions":null}"#,
+        r#"{"op":"check","peer":"a","left":"A","right":"B","pin":[]}"#,
+        r#"{"op":"check","peer":"a","left":"A","right":"B","cert":{}}"#,
+        r#"{"op":"check","peer":"a","left":"A","right":"B","pin":[4294967296],"cert":{}}"#,
+        r#"{"op":"check","peer":"a","left":"A","right":"B","pin":[1.0],"cert":{}}"#,
+        r#"{"op":"check","peer":"a","left":"A","right":"B","pin":[],"cert":{},"x":1}"#,
     ] {
-        let line = format!(in rt.alloc(); r#"{{"op":"put","peer":"a","axioms":["{axiom}"]}}"#)?;
         let got = told(rt.alloc(), line.as_bytes())?;
-        assert_eq!(rt; got.as_slice(), expected.as_bytes(), "at {axiom}");
+        assert_eq!(rt; got.as_slice(), b"2".as_slice(), "at {line}");
     }
-    let line = format!(in rt.alloc();
-        r#"{{"op":"put","peer":"a","axioms":["(implies B {longest})"]}}"#
-    )?;
-    let expected = format!(in rt.alloc(); "put a B {longest}")?;
-    assert_eq!(rt;
-        told(rt.alloc(), line.as_bytes())?.as_slice(),
-        expected.as_bytes()
-    );
-    let line = format!(in rt.alloc();
-        r#"{{"op":"put","peer":"a","axioms":["(implies B {longest}5)"]}}"#
-    )?;
-    assert_eq!(rt;
-        told(rt.alloc(), line.as_bytes())?.as_slice(),
-        b"17".as_slice()
-    );
     Ok(())
 }
 
@@ -140,35 +198,73 @@ fn an_axiom_has_two_names_and_single_spaces(rt: HostRuntime) -> Result<(), Fail>
 fn a_line_that_is_no_json_value_is_bad(rt: HostRuntime) -> Result<(), Fail> {
     for line in [
         b"".as_slice(),
-        b"{\"op\":\"peers\",\"names\":[]".as_slice(),
-        b"{\"op\":\"peers\",\"names\":[]} x".as_slice(),
-        b"{\"op\":\"peers\",\"names\":[\"\xff\"]}".as_slice(),
+        b"{\"op\":\"versions\"".as_slice(),
+        b"{\"op\":\"versions\"} x".as_slice(),
+        b"{\"op\":\"versions\xff\"}".as_slice(),
         b"1e999".as_slice(),
     ] {
-        assert_eq!(rt;
-            told(rt.alloc(), line)?.as_slice(),
-            b"1".as_slice(),
-            "at {line:?}"
-        );
+        let got = told(rt.alloc(), line)?;
+        assert_eq!(rt; got.as_slice(), b"1".as_slice(), "at {line:?}");
     }
-    let mut line = Vec::new(rt.alloc());
-    for _ in 0..127 {
+    Ok(())
+}
+
+// Lists in lists, so deep.
+fn nested(alloc: Global, depth: u32) -> Result<Vec<u8>, NoMemory> {
+    let mut line = Vec::new(alloc);
+    for _ in 0..depth {
         line.push(b'[')?;
     }
-    for _ in 0..127 {
+    for _ in 0..depth {
         line.push(b']')?;
     }
-    assert_eq!(rt;
-        told(rt.alloc(), line.as_slice())?.as_slice(),
-        b"17".as_slice(),
-        "127 deep"
-    );
-    line.insert(0, b'[')?;
-    line.push(b']')?;
-    assert_eq!(rt;
-        told(rt.alloc(), line.as_slice())?.as_slice(),
-        b"1".as_slice(),
-        "128 deep"
-    );
+    Ok(line)
+}
+
+#[test]
+fn a_value_nests_at_most_127_deep(rt: HostRuntime) -> Result<(), Fail> {
+    for (depth, expected) in [(127, b"2".as_slice()), (128, b"1".as_slice())] {
+        let line = nested(rt.alloc(), depth)?;
+        let got = told(rt.alloc(), line.as_slice())?;
+        assert_eq!(rt; got.as_slice(), expected, "{depth} deep");
+    }
+    Ok(())
+}
+
+// What a line is answered before any peer is declared: whether its form is accepted, or the code of its refusal.
+fn accepted_first(alloc: Global, line: &[u8]) -> Result<u8, NoMemory> {
+    match read_accepted(alloc, None, line) {
+        Ok(_) => Ok(0),
+        Err(WireErr::Code { code, n: _ }) => Ok(code),
+        Err(WireErr::NoMemory) => Err(NoMemory),
+    }
+}
+
+#[test]
+fn the_first_request_declares_one_peer(rt: HostRuntime) -> Result<(), Fail> {
+    for (line, code) in [
+        (r#"{"op":"peers","names":["a"]}"#, 0),
+        (r#"{"op":"peers","names":["1"]}"#, NOT_BUILT),
+        (r#"{"op":"peers","names":[]}"#, NOT_BUILT),
+        (r#"{"op":"peers","names":["a","b"]}"#, NOT_BUILT),
+        (r#"{"op":"put","peer":"a"}"#, NOT_BUILT),
+        (
+            r#"{"op":"ask","peer":"a","left":"A","right":"B"}"#,
+            NOT_BUILT,
+        ),
+        (
+            r#"{"op":"check","peer":"a","left":"A","right":"B","pin":[],"cert":{}}"#,
+            NOT_BUILT,
+        ),
+        (r#"{"op":"versions"}"#, NOT_BUILT),
+        (r#"{"op":"version"}"#, BAD_SHAPE),
+        (r#"{"op":"peers","names":["a"]"#, BAD_JSON),
+    ] {
+        assert_eq!(rt;
+            accepted_first(rt.alloc(), line.as_bytes())?,
+            code,
+            "at {line}"
+        );
+    }
     Ok(())
 }

@@ -1,98 +1,182 @@
-ghost use Rattle.dd_wire.specs.Replies.{IsPrintable};
-
 use super::*;
-use crate::reply::copy_pin;
+use crate::code::*;
 use dd_concept::Items;
+use dd_text::is_name;
 use std::process::Abort;
 use std::test::Fail;
 
-fn prints(rt: &impl Abort, alloc: Global, reply: &Reply, expected: &str) -> Result<(), NoMemory>
-    requires { IsPrintable reply.now }
-{
-    let text = print_reply(alloc, reply)?;
-    assert_eq!(rt; text.as_slice(), expected.as_bytes());
-    Ok(())
+// The text of a reply, which names a peer by a name alone.
+fn printed(rt: &impl Abort, alloc: Global, reply: &Reply) -> Result<Vec<u8>, NoMemory> {
+    match reply {
+        Reply::Put { put, .. } => {
+            assert!(rt; is_name(put.as_slice()));
+            print_reply(alloc, reply)
+        }
+        _ => print_reply(alloc, reply),
+    }
+}
+
+fn put_of(alloc: Global, peer: &[u8]) -> Result<Reply, NoMemory> {
+    Ok(Reply::Put {
+        id: 2,
+        put: Items::from_slice(alloc, peer)?,
+        version: 4294967295,
+    })
+}
+
+fn decided_of(alloc: Global, yes: bool, versions: &[u32]) -> Result<Reply, NoMemory> {
+    let pin = Pin {
+        versions: Items::from_slice(alloc, versions)?,
+    };
+    Ok(Reply::Decided { id: 3, yes, pin })
 }
 
 #[test]
 fn a_reply_is_compact_json(rt: HostRuntime) -> Result<(), Fail> {
     let alloc = rt.alloc();
-    let refused = Reply::Refused {
-        id: 1,
-        code: 16,
-        n: None,
-    };
-    prints(
-        &rt,
-        alloc,
-        &refused,
-        r#"{"code":16,"error":"line_too_long","id":1}"#,
-    )?;
-    let refused = Reply::Refused {
-        id: 2,
-        code: 1,
-        n: Some(18446744073709551615),
-    };
-    prints(
-        &rt,
-        alloc,
-        &refused,
-        r#"{"code":1,"error":"bad_json","id":2,"n":18446744073709551615}"#,
-    )?;
-    let refused = Reply::Refused {
-        id: 3,
-        code: 17,
-        n: None,
-    };
-    prints(
-        &rt,
-        alloc,
-        &refused,
-        r#"{"code":17,"error":"not_built","id":3}"#,
-    )?;
-    let peers = Reply::Peers {
-        id: 18446744073709551615,
-        count: 64,
-    };
-    prints(
-        &rt,
-        alloc,
-        &peers,
-        r#"{"id":18446744073709551615,"peers":64}"#,
-    )?;
+    let put = put_of(alloc, b"p-0")?;
+    let yes = decided_of(alloc, true, &[1, 0, 4294967295])?;
+    let no = decided_of(alloc, false, &[])?;
+    for (reply, expected) in [
+        (put, r#"{"id":2,"put":"p-0","version":4294967295}"#),
+        (yes, r#"{"id":3,"pin":[1,0,4294967295],"verdict":"yes"}"#),
+        (no, r#"{"id":3,"pin":[],"verdict":"no"}"#),
+        (
+            Reply::Peers {
+                id: 18446744073709551615,
+                count: 64,
+            },
+            r#"{"id":18446744073709551615,"peers":64}"#,
+        ),
+        (
+            Reply::Refused {
+                id: 2,
+                code: TOO_MANY_AXIOMS,
+                n: Some(2001),
+            },
+            r#"{"code":9,"error":"too_many_axioms","id":2,"n":2001}"#,
+        ),
+        (Reply::Valid { id: 3 }, r#"{"check":"valid","id":3}"#),
+        (
+            Reply::InvalidWorld {
+                id: 4,
+                fault: BadWorld::Shape,
+            },
+            r#"{"check":"invalid","fault":"shape","id":4}"#,
+        ),
+        (
+            Reply::Unreadable {
+                id: 2,
+                what: Unread::Field("format"),
+            },
+            r#"{"check":"unreadable","field":"format","id":2}"#,
+        ),
+    ] {
+        let text = printed(&rt, alloc, &reply)?;
+        assert_eq!(rt; text.as_slice(), expected.as_bytes(), "not {expected}");
+    }
     Ok(())
 }
 
 #[test]
-fn a_reply_has_its_peer_and_its_pin(rt: HostRuntime) -> Result<(), Fail> {
-    let alloc = rt.alloc();
-    let put = Reply::Put {
-        id: 2,
-        put: Items::from_slice(alloc, b"p0")?,
-        version: 1,
-    };
-    prints(&rt, alloc, &put, r#"{"id":2,"put":"p0","version":1}"#)?;
-    let pin = Pin {
-        versions: Items::from_slice(alloc, &[1, 0, 4294967295])?,
-    };
-    let decided = Reply::Decided {
-        id: 3,
-        yes: true,
-        pin: copy_pin(alloc, &pin)?,
-    };
-    prints(
-        &rt,
-        alloc,
-        &decided,
-        r#"{"id":3,"pin":[1,0,4294967295],"verdict":"yes"}"#,
-    )?;
-    let decided = Reply::Decided {
-        id: 4,
-        yes: false,
-        pin: Pin {
-            versions: Items::new(alloc),
-        },
-    };
-    prints(&rt, alloc, &decided, r#"{"id":4,"pin":[],"verdict":"no"}"#)?;
+fn a_fault_has_its_name_and_its_place(rt: HostRuntime) -> Result<(), Fail> {
+    for (fault, expected) in [
+        (
+            BadWorld::Shape,
+            r#"{"check":"invalid","fault":"shape","id":4}"#,
+        ),
+        (
+            BadWorld::NotCounter,
+            r#"{"check":"invalid","fault":"not_counter","id":4}"#,
+        ),
+        (
+            BadWorld::Axiom { index: 1, peer: 0 },
+            r#"{"check":"invalid","fault":"axiom","id":4,"index":1,"peer":0}"#,
+        ),
+        (
+            BadWorld::Into { index: 0, peer: 63 },
+            r#"{"check":"invalid","fault":"into","id":4,"index":0,"peer":63}"#,
+        ),
+        (
+            BadWorld::Onto {
+                index: 4294967295,
+                peer: 2,
+            },
+            r#"{"check":"invalid","fault":"onto","id":4,"index":4294967295,"peer":2}"#,
+        ),
+    ] {
+        let reply = Reply::InvalidWorld { id: 4, fault };
+        let text = print_reply(rt.alloc(), &reply)?;
+        assert_eq!(rt; text.as_slice(), expected.as_bytes(), "not {expected}");
+    }
+    Ok(())
+}
+
+#[test]
+fn what_cannot_be_read_is_named(rt: HostRuntime) -> Result<(), Fail> {
+    for (what, expected) in [
+        (
+            Unread::Field("format"),
+            r#"{"check":"unreadable","field":"format","id":2}"#,
+        ),
+        (
+            Unread::Place {
+                place: 7,
+                value: 4294967296,
+            },
+            r#"{"check":"unreadable","id":2,"place":7,"value":4294967296}"#,
+        ),
+        (Unread::Text(3), r#"{"check":"unreadable","id":2,"text":3}"#),
+    ] {
+        let reply = Reply::Unreadable { id: 2, what };
+        let text = print_reply(rt.alloc(), &reply)?;
+        assert_eq!(rt; text.as_slice(), expected.as_bytes(), "not {expected}");
+    }
+    Ok(())
+}
+
+#[test]
+fn each_code_has_its_name(rt: HostRuntime) -> Result<(), Fail> {
+    for (code, expected) in [
+        (
+            LINE_TOO_LONG,
+            r#"{"code":16,"error":"line_too_long","id":1}"#,
+        ),
+        (BAD_JSON, r#"{"code":1,"error":"bad_json","id":1}"#),
+        (BAD_SHAPE, r#"{"code":2,"error":"bad_shape","id":1}"#),
+        (NOT_BUILT, r#"{"code":17,"error":"not_built","id":1}"#),
+        (NO_PEERS, r#"{"code":4,"error":"no_peers","id":1}"#),
+        (PEERS_TWICE, r#"{"code":5,"error":"peers_twice","id":1}"#),
+        (BAD_PEERS, r#"{"code":6,"error":"bad_peers","id":1}"#),
+        (UNKNOWN_PEER, r#"{"code":7,"error":"unknown_peer","id":1}"#),
+        (BAD_CONCEPT, r#"{"code":3,"error":"bad_concept","id":1}"#),
+        (
+            CONCEPT_LIMIT,
+            r#"{"code":11,"error":"concept_limit","id":1}"#,
+        ),
+        (SYMBOLS_FULL, r#"{"code":12,"error":"symbols_full","id":1}"#),
+        (SAME_PEER, r#"{"code":8,"error":"same_peer","id":1}"#),
+        (
+            UNKNOWN_SOURCE,
+            r#"{"code":19,"error":"unknown_source","id":1}"#,
+        ),
+        (
+            TOO_MANY_AXIOMS,
+            r#"{"code":9,"error":"too_many_axioms","id":1}"#,
+        ),
+        (
+            TOO_MANY_RULES,
+            r#"{"code":10,"error":"too_many_rules","id":1}"#,
+        ),
+        (BAD_PIN, r#"{"code":18,"error":"bad_pin","id":1}"#),
+    ] {
+        let reply = Reply::Refused {
+            id: 1,
+            code,
+            n: None,
+        };
+        let text = print_reply(rt.alloc(), &reply)?;
+        assert_eq!(rt; text.as_slice(), expected.as_bytes(), "not {expected}");
+    }
     Ok(())
 }

@@ -1,12 +1,12 @@
-use Rattle.std.proofs.Common.{sym, subst, ℕ, ◌<◌, List, length, All}
-use Rattle.drago.specs.SessionState.{pairs_of}
-use Rattle.drago.proofs.Index.{rights_of-below}
+use Rattle.drago.specs.SessionState.{state_of}
+use Rattle.drago.specs.History.{present_version}
+use Rattle.drago.proofs.Sessions.{rows_below, asks_found}
 use Rattle.drago.proofs.Verdicts.{walk_decides_ok}
 use Rattle.drago.proofs.session.Session.decide.Goals as goal
 
 pub reaches-requires : goal.reaches-requires
-reaches-requires c = λ name. subst (λ (ns : List ℕ). All (λ n. n < length c.above.result.now) ns) (sym (c.above.ensures.indexed name))
-    (rights_of-below (length c.above.result.now) (pairs_of c.args.self.now.put) name c.above.ensures.bounded)
+reaches-requires c = rows_below c.above.result.now (present_version 0 (state_of c.args.self.now).history) c.above.ensures.indexed
 
 pub returns : goal.returns
-returns c = walk_decides_ok c.above.result.now (pairs_of c.args.self.now.put) c.args.left c.args.right c.reaches.result c.above.ensures.indexed c.reaches.ensures
+returns c = walk_decides_ok c.above.result.now (present_version 0 (state_of c.args.self.now).history) c.args.query.now c.in-Some.left c.in-Some-name_of.right c.reaches.result
+    (asks_found c.args.query.now c.in-Some.left c.in-Some-name_of.right c.requires.names c.in-Some.ensures c.in-Some-name_of.ensures) c.above.ensures.indexed c.reaches.ensures

@@ -1,0 +1,76 @@
+ghost use Rattle.std.specs.Prelude.{◌≡◌};
+ghost use Rattle.std.specs.Option.{option_copied};
+ghost use Rattle.serde_json.specs.View.{view};
+ghost use Rattle.dd_wire.specs.Accepted.{is_accepted, is_declared, is_one_name, is_derivation};
+ghost use Rattle.dd_wire.specs.Forms.{written_of};
+
+use crate::form::Form;
+use crate::names::Names;
+use dd_json::Text;
+use dd_text::is_name;
+use serde_json::Value;
+
+/// Whether a form is accepted so far: the first declaration, of one name; puts without rules, asks between names without
+/// budgets, and checks of what is no derivation, each of a declared peer.
+pub fn is_accepted_form(names: Option<&Names>, form: &Form) -> bool
+    ensures { result ≡ is_accepted (option_copied names.entry) (written_of form.now) }
+{
+    match form {
+        Form::Peers(ns) => names.is_none() && is_one_name(ns.as_slice()),
+        Form::Put {
+            peer,
+            into,
+            onto,
+            ..
+        } => {
+            is_declared(names, peer.as_slice())
+                && into.as_slice().is_empty()
+                && onto.as_slice().is_empty()
+        }
+        Form::Ask {
+            peer,
+            left,
+            right,
+            expansions,
+            verdicts,
+        } => {
+            is_declared(names, peer.as_slice())
+                && is_name(left.as_slice())
+                && is_name(right.as_slice())
+                && expansions.is_none()
+                && verdicts.is_none()
+        }
+        Form::Check { peer, cert, .. } => {
+            is_declared(names, peer.as_slice()) && !is_derivation(cert)
+        }
+        Form::Versions => false,
+    }
+}
+
+fn is_declared(names: Option<&Names>, peer: &[u8]) -> bool
+    ensures { result ≡ is_declared (option_copied names.entry) peer.now }
+{
+    match names {
+        Some(names) => names.number(peer).is_some(),
+        None => false,
+    }
+}
+
+fn is_one_name(names: &[Text]) -> bool
+    ensures { result ≡ is_one_name names.now }
+{
+    match names {
+        [name] => is_name(name.as_slice()),
+        _ => false,
+    }
+}
+
+/// Whether a certificate says that it is a derivation.
+fn is_derivation(cert: &Value) -> bool
+    ensures { result ≡ is_derivation (view cert.now) }
+{
+    match cert.get("kind").and_then(Value::as_str) {
+        Some(kind) => kind == "yes",
+        None => false,
+    }
+}
