@@ -59,13 +59,28 @@ fn breaks(alloc: Global, capacity: usize, reads: &[u64], writes: &[u64]) -> Resu
     told(alloc, &["alone"], &mut source, &mut sink)
 }
 
-/// What a session gives that begins so and then checks A under C.
-fn after_check(alloc: Global, begin: &str, pin: &str, cert: &str) -> Result<Vec<u8>, Fail> {
-    let input = format!(in alloc;
-        r#"{begin}{{"op":"check","peer":"a","left":"A","right":"C","pin":{pin},"cert":{cert}}}"#
-    )?;
-    answers(alloc, input.as_bytes(), 4096)
+/// The bytes of texts, one behind another.
+fn joined(alloc: Global, parts: &[&str]) -> Result<Vec<u8>, Fail> {
+    let mut whole = Vec::new(alloc);
+    for part in parts {
+        whole.extend_from_slice(part.as_bytes())?;
+    }
+    Ok(whole)
 }
+
+/// Whether a session over these texts, one behind another, gives those, the last of which ends with the digit of its
+/// status.
+fn gives(alloc: Global, input: &[&str], want: &[&str]) -> Result<bool, Fail> {
+    let input = joined(alloc, input)?;
+    let want = joined(alloc, want)?;
+    let got = answers(alloc, input.as_slice(), 4096)?;
+    Ok(got.as_slice() == want.as_slice())
+}
+
+/// A check of two concepts, up to the left one, and a check of A under C, up to its pin.
+const CHECK_LEFT: &str = r#"{"op":"check","peer":"a","left":""#;
+
+const CHECK: &str = r#"{"op":"check","peer":"a","left":"A","right":"C","pin":"#;
 
 #[test]
 fn each_line_with_a_byte_is_a_request(rt: HostRuntime) -> Result<(), Fail> {
@@ -84,11 +99,7 @@ fn each_line_with_a_byte_is_a_request(rt: HostRuntime) -> Result<(), Fail> {
     ] {
         for piece in [1, 4096] {
             let got = answers(rt.alloc(), input.as_bytes(), piece)?;
-            assert_eq!(rt;
-                got.as_slice(),
-                want.as_bytes(),
-                "{piece} bytes a call of {input}"
-            );
+            assert_eq!(rt; got.as_slice(), want.as_bytes());
         }
     }
     Ok(())
@@ -108,7 +119,7 @@ fn the_front_of_an_input_is_answered(rt: HostRuntime) -> Result<(), Fail> {
         let want = format!(in rt.alloc(); "{}{last}0", &REPLIES[..given])?;
         for piece in [1, 4096] {
             let got = answers(rt.alloc(), &input.as_bytes()[..size], piece)?;
-            assert_eq!(rt; got.as_slice(), want.as_bytes(), "{size} bytes");
+            assert_eq!(rt; got.as_slice(), want.as_bytes());
         }
     }
     Ok(())
@@ -136,16 +147,25 @@ fn a_name_is_under_those_that_the_axioms_lead_to(rt: HostRuntime) -> Result<(), 
         ),
         ("", "A", "B", "no"),
     ] {
-        let input = format!(in rt.alloc();
-            r#"{PEERS}{{"op":"put","peer":"a","axioms":[{axioms}]}}
-{{"op":"ask","peer":"a","left":"{left}","right":"{right}"}}"#
-        )?;
-        let want = format!(in rt.alloc();
-            "{}{{\"id\":3,\"pin\":[1],\"verdict\":\"{want}\"}}\n0",
-            &REPLIES[..50]
-        )?;
-        let got = answers(rt.alloc(), input.as_bytes(), 4096)?;
-        assert_eq!(rt; got.as_slice(), want.as_bytes(), "{left} under {right}");
+        let put = "{\"op\":\"put\",\"peer\":\"a\",\"axioms\":[";
+        let ask = "]}\n{\"op\":\"ask\",\"peer\":\"a\",\"left\":\"";
+        let input = [
+            PEERS,
+            put,
+            axioms,
+            ask,
+            left,
+            "\",\"right\":\"",
+            right,
+            "\"}",
+        ];
+        let told = [
+            &REPLIES[..50],
+            "{\"id\":3,\"pin\":[1],\"verdict\":\"",
+            want,
+            "\"}\n0",
+        ];
+        assert!(rt; gives(rt.alloc(), &input, &told)?);
     }
     Ok(())
 }
@@ -153,15 +173,14 @@ fn a_name_is_under_those_that_the_axioms_lead_to(rt: HostRuntime) -> Result<(), 
 #[test]
 fn an_ask_before_the_put_knows_no_axiom(rt: HostRuntime) -> Result<(), Fail> {
     for (right, want) in [("A", "yes"), ("B", "no")] {
-        let input = format!(in rt.alloc();
-            r#"{PEERS}{{"op":"ask","peer":"a","left":"A","right":"{right}"}}"#
-        )?;
-        let want = format!(in rt.alloc();
-            "{}{{\"id\":2,\"pin\":[0],\"verdict\":\"{want}\"}}\n0",
-            &REPLIES[..19]
-        )?;
-        let got = answers(rt.alloc(), input.as_bytes(), 4096)?;
-        assert_eq!(rt; got.as_slice(), want.as_bytes(), "A under {right}");
+        let ask = "{\"op\":\"ask\",\"peer\":\"a\",\"left\":\"A\",\"right\":\"";
+        let told = [
+            &REPLIES[..19],
+            "{\"id\":2,\"pin\":[0],\"verdict\":\"",
+            want,
+            "\"}\n0",
+        ];
+        assert!(rt; gives(rt.alloc(), &[PEERS, ask, right, "\"}"], &told)?);
     }
     Ok(())
 }
@@ -178,12 +197,15 @@ fn a_line_that_is_no_value_changes_nothing(rt: HostRuntime) -> Result<(), Fail> 
         input.extend_from_slice(line)?;
         input.push(b'\n')?;
         input.extend_from_slice(ASK.as_bytes())?;
-        let want = format!(in rt.alloc();
-            "{}{{\"code\":1,\"error\":\"bad_json\",\"id\":3}}\n{{\"id\":4,\"pin\":[1],\"verdict\":\"yes\"}}\n0",
-            &REPLIES[..50]
+        let want = joined(
+            rt.alloc(),
+            &[
+                &REPLIES[..50],
+                "{\"code\":1,\"error\":\"bad_json\",\"id\":3}\n{\"id\":4,\"pin\":[1],\"verdict\":\"yes\"}\n0",
+            ],
         )?;
         let got = answers(rt.alloc(), input.as_slice(), 4096)?;
-        assert_eq!(rt; got.as_slice(), want.as_bytes());
+        assert_eq!(rt; got.as_slice(), want.as_slice());
     }
     Ok(())
 }
@@ -197,13 +219,8 @@ fn one_peer_is_declared_before_all_else(rt: HostRuntime) -> Result<(), Fail> {
         r#"{"op":"put","peer":"a"}"#,
         r#"{"op":"ask","peer":"a","left":"A","right":"A"}"#,
     ] {
-        let input = format!(in rt.alloc(); "{line}\n{PEERS}")?;
-        let got = answers(rt.alloc(), input.as_bytes(), 4096)?;
-        assert_eq!(rt;
-            got.as_slice(),
-            &b"{\"code\":17,\"error\":\"not_built\",\"id\":1}\n{\"id\":2,\"peers\":1}\n0"[..],
-            "at {line}"
-        );
+        let told = "{\"code\":17,\"error\":\"not_built\",\"id\":1}\n{\"id\":2,\"peers\":1}\n0";
+        assert!(rt; gives(rt.alloc(), &[line, "\n", PEERS], &[told])?);
     }
     Ok(())
 }
@@ -224,7 +241,7 @@ fn a_line_of_too_many_bytes_is_refused_alone(rt: HostRuntime) -> Result<(), Fail
         input.push(b'\n')?;
         input.extend_from_slice(PEERS.as_bytes())?;
         let got = answers(rt.alloc(), input.as_slice(), 4096)?;
-        assert_eq!(rt; got.as_slice(), want, "{size} spaces");
+        assert_eq!(rt; got.as_slice(), want);
     }
     Ok(())
 }
@@ -240,9 +257,9 @@ fn a_read_that_fails_ends_the_replies_there(rt: HostRuntime) -> Result<(), Fail>
         (14, 50),
         (15, 85),
     ] {
-        let want = format!(in rt.alloc(); "{}3", &REPLIES[..given])?;
+        let want = joined(rt.alloc(), &[&REPLIES[..given], "3"])?;
         let got = breaks(rt.alloc(), 4096, &[call], &[])?;
-        assert_eq!(rt; got.as_slice(), want.as_bytes(), "at read {call}");
+        assert_eq!(rt; got.as_slice(), want.as_slice());
     }
     Ok(())
 }
@@ -257,13 +274,9 @@ fn a_write_that_fails_ends_the_replies_there(rt: HostRuntime) -> Result<(), Fail
         (0, 100, 0),
         (20, 100, 20),
     ] {
-        let want = format!(in rt.alloc(); "{}4", &REPLIES[..given])?;
+        let want = joined(rt.alloc(), &[&REPLIES[..given], "4"])?;
         let got = breaks(rt.alloc(), capacity, &[], &[call])?;
-        assert_eq!(rt;
-            got.as_slice(),
-            want.as_bytes(),
-            "at write {call} of {capacity} bytes"
-        );
+        assert_eq!(rt; got.as_slice(), want.as_slice());
     }
     Ok(())
 }

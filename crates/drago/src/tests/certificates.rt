@@ -1,6 +1,8 @@
-use super::{PEERS, after_check, answers};
+use super::{CHECK, PEERS, gives};
 use std::alloc::Global;
 use std::test::Fail;
+
+const IS_DECLARED: &str = "{\"id\":1,\"peers\":1}\n";
 
 #[test]
 fn a_certificate_is_read_after_the_pin(rt: HostRuntime) -> Result<(), Fail> {
@@ -23,13 +25,8 @@ fn a_certificate_is_read_after_the_pin(rt: HostRuntime) -> Result<(), Fail> {
             r#"{"code":17,"error":"not_built","id":2}"#,
         ),
     ] {
-        let want = format!(in rt.alloc(); "{{\"id\":1,\"peers\":1}}\n{want}\n0")?;
-        let got = after_check(rt.alloc(), PEERS, pin, cert)?;
-        assert_eq!(rt;
-            got.as_slice(),
-            want.as_bytes(),
-            "pin {pin}, certificate {cert}"
-        );
+        let check = [PEERS, CHECK, pin, ",\"cert\":", cert, "}"];
+        assert!(rt; gives(rt.alloc(), &check, &[IS_DECLARED, want, "\n0"])?);
     }
     Ok(())
 }
@@ -76,11 +73,14 @@ fn the_member_of_another_form_is_told(rt: HostRuntime) -> Result<(), Fail> {
             "locals",
         ),
     ] {
-        let want = format!(in rt.alloc();
-            "{{\"id\":1,\"peers\":1}}\n{{\"check\":\"unreadable\",\"field\":\"{field}\",\"id\":2}}\n0"
-        )?;
-        let got = after_check(rt.alloc(), PEERS, "[0]", cert)?;
-        assert_eq!(rt; got.as_slice(), want.as_bytes(), "certificate {cert}");
+        let check = [PEERS, CHECK, "[0],\"cert\":", cert, "}"];
+        let told = [
+            IS_DECLARED,
+            "{\"check\":\"unreadable\",\"field\":\"",
+            field,
+            "\",\"id\":2}\n0",
+        ];
+        assert!(rt; gives(rt.alloc(), &check, &told)?);
     }
     Ok(())
 }
@@ -114,18 +114,17 @@ fn the_first_number_or_text_is_told(rt: HostRuntime) -> Result<(), Fail> {
             r#""id":2,"text":2"#,
         ),
     ] {
-        let cert = format!(in rt.alloc();
-            r#"{{"format":1,"kind":"no","links":{links},"locals":{locals}}}"#
-        )?;
-        let want = format!(in rt.alloc();
-            "{{\"id\":1,\"peers\":1}}\n{{\"check\":\"unreadable\",{want}}}\n0"
-        )?;
-        let got = after_check(rt.alloc(), PEERS, "[0]", cert.as_str())?;
-        assert_eq!(rt;
-            got.as_slice(),
-            want.as_bytes(),
-            "links {links}, locals {locals}"
-        );
+        let check = [
+            PEERS,
+            CHECK,
+            "[0],\"cert\":{\"format\":1,\"kind\":\"no\",\"links\":",
+            links,
+            ",\"locals\":",
+            locals,
+            "}}",
+        ];
+        let told = [IS_DECLARED, "{\"check\":\"unreadable\",", want, "}\n0"];
+        assert!(rt; gives(rt.alloc(), &check, &told)?);
     }
     Ok(())
 }
@@ -149,13 +148,20 @@ fn a_check_leaves_no_symbols(rt: HostRuntime) -> Result<(), Fail> {
     // A and C are two of the 65,536 names that there may be.
     let above = check_of_names(rt.alloc(), "n", 65_535)?;
     let most = check_of_names(rt.alloc(), "m", 65_534)?;
-    let input = format!(in rt.alloc();
-        r#"{PEERS}{above}{most}{{"op":"ask","peer":"a","left":"X","right":"Y"}}"#
-    )?;
-    let got = answers(rt.alloc(), input.as_bytes(), 4096)?;
-    assert_eq!(rt;
-        got.as_slice(),
-        &b"{\"id\":1,\"peers\":1}\n{\"code\":12,\"error\":\"symbols_full\",\"id\":2}\n{\"check\":\"valid\",\"id\":3}\n{\"id\":4,\"pin\":[0],\"verdict\":\"no\"}\n0"[..]
+    let lines = [
+        PEERS,
+        above.as_str(),
+        most.as_str(),
+        "{\"op\":\"ask\",\"peer\":\"a\",\"left\":\"X\",\"right\":\"Y\"}",
+    ];
+    assert!(rt;
+        gives(
+            rt.alloc(),
+            &lines,
+            &[
+                "{\"id\":1,\"peers\":1}\n{\"code\":12,\"error\":\"symbols_full\",\"id\":2}\n{\"check\":\"valid\",\"id\":3}\n{\"id\":4,\"pin\":[0],\"verdict\":\"no\"}\n0"
+            ]
+        )?
     );
     Ok(())
 }

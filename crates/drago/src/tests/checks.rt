@@ -1,5 +1,4 @@
-use super::{PEERS, after_check, answers};
-use std::alloc::Global;
+use super::{CHECK, PEERS, gives};
 use std::test::Fail;
 
 const JUDGED: &str = r#"{"op":"peers","names":["a"]}
@@ -28,23 +27,16 @@ const ACCEPTED: &str = r#"{"id":1,"peers":1}
 {"id":2,"put":"a","version":1}
 "#;
 
+/// What stands between the word `pin` of a check and the links of its certificate.
+const FRONT: &str = r#"[1],"cert":{"format":1,"kind":"no","links":"#;
+
 /// An element in A and in no other name.
 const ONLY_A: &str =
     r#"{"format":1,"kind":"no","links":[],"locals":[{"names":[["A",0]],"roles":[],"size":1}]}"#;
 
-/// What a session gives that checks A under C by a world with these links and local interpretations, of the version
-/// with roles.
-fn after_world(alloc: Global, links: &str, locals: &str) -> Result<Vec<u8>, Fail> {
-    let cert = format!(in alloc;
-        r#"{{"format":1,"kind":"no","links":{links},"locals":{locals}}}"#
-    )?;
-    after_check(alloc, WITH_ROLES, "[1]", cert.as_str())
-}
-
 #[test]
 fn a_countermodel_satisfies_the_axioms_and_refutes_the_query(rt: HostRuntime) -> Result<(), Fail> {
-    let got = answers(rt.alloc(), JUDGED.as_bytes(), 4096)?;
-    assert_eq!(rt; got.as_slice(), JUDGEMENTS.as_bytes());
+    assert!(rt; gives(rt.alloc(), &[JUDGED], &[JUDGEMENTS])?);
     Ok(())
 }
 
@@ -92,16 +84,17 @@ fn the_first_axiom_that_fails_is_told(rt: HostRuntime) -> Result<(), Fail> {
             r#"{"check":"invalid","fault":"not_counter","id":3}"#,
         ),
     ] {
-        let locals = format!(in rt.alloc();
-            r#"[{{"names":[{names}],"roles":[{roles}],"size":2}}]"#
-        )?;
-        let want = format!(in rt.alloc(); "{ACCEPTED}{want}\n0")?;
-        let got = after_world(rt.alloc(), "[]", locals.as_str())?;
-        assert_eq!(rt;
-            got.as_slice(),
-            want.as_bytes(),
-            "names {names}, roles {roles}"
-        );
+        let world = [
+            WITH_ROLES,
+            CHECK,
+            FRONT,
+            "[],\"locals\":[{\"names\":[",
+            names,
+            "],\"roles\":[",
+            roles,
+            "],\"size\":2}]}}",
+        ];
+        assert!(rt; gives(rt.alloc(), &world, &[ACCEPTED, want, "\n0"])?);
     }
     Ok(())
 }
@@ -147,26 +140,29 @@ fn the_shape_comes_before_the_axioms(rt: HostRuntime) -> Result<(), Fail> {
             "shape",
         ),
     ] {
-        let want = format!(in rt.alloc();
-            "{ACCEPTED}{{\"check\":\"invalid\",\"fault\":\"{fault}\",\"id\":3}}\n0"
-        )?;
-        let got = after_world(rt.alloc(), links, locals)?;
-        assert_eq!(rt;
-            got.as_slice(),
-            want.as_bytes(),
-            "links {links}, locals {locals}"
-        );
+        let world = [
+            WITH_ROLES,
+            CHECK,
+            FRONT,
+            links,
+            ",\"locals\":",
+            locals,
+            "}}",
+        ];
+        let fault = [
+            ACCEPTED,
+            "{\"check\":\"invalid\",\"fault\":\"",
+            fault,
+            "\",\"id\":3}\n0",
+        ];
+        assert!(rt; gives(rt.alloc(), &world, &fault)?);
     }
     Ok(())
 }
 
-/// What is replied to a check before the first put, whose world has A = {0, 1}, B = {1} and r = {(0, 1)}.
-fn weighed(alloc: Global, left: &str, right: &str) -> Result<Vec<u8>, Fail> {
-    let input = format!(in alloc;
-        r#"{PEERS}{{"op":"check","peer":"a","left":"{left}","right":"{right}","pin":[0],"cert":{{"locals":[{{"size":2,"names":[["A",0],["A",1],["B",1]],"roles":[["r",0,1]]}}],"links":[],"kind":"no","format":1}}}}"#
-    )?;
-    answers(alloc, input.as_bytes(), 4096)
-}
+/// The end of a check before the first put, whose world has A = {0, 1}, B = {1} and r = {(0, 1)}.
+const WEIGHED: &str =
+    r#"","pin":[0],"cert":{"locals":[{"size":2,"names":[["A",0],["A",1],["B",1]],"roles":[["r",0,1]]}],"links":[],"kind":"no","format":1}}"#;
 
 #[test]
 fn an_element_refutes_by_having_left_and_lacking_right(rt: HostRuntime) -> Result<(), Fail> {
@@ -183,14 +179,20 @@ fn an_element_refutes_by_having_left_and_lacking_right(rt: HostRuntime) -> Resul
         ("(or A B)", "(and A B)", true),
         ("(all s bottom)", "(some r top)", true),
     ] {
+        let check = [
+            PEERS,
+            "{\"op\":\"check\",\"peer\":\"a\",\"left\":\"",
+            left,
+            "\",\"right\":\"",
+            right,
+            WEIGHED,
+        ];
         let reply = if refutes {
-            r#""check":"valid""#
+            "{\"id\":1,\"peers\":1}\n{\"check\":\"valid\",\"id\":2}\n0"
         } else {
-            r#""check":"invalid","fault":"not_counter""#
+            "{\"id\":1,\"peers\":1}\n{\"check\":\"invalid\",\"fault\":\"not_counter\",\"id\":2}\n0"
         };
-        let want = format!(in rt.alloc(); "{{\"id\":1,\"peers\":1}}\n{{{reply},\"id\":2}}\n0")?;
-        let got = weighed(rt.alloc(), left, right)?;
-        assert_eq!(rt; got.as_slice(), want.as_bytes(), "{left} under {right}");
+        assert!(rt; gives(rt.alloc(), &check, &[reply])?);
     }
     Ok(())
 }
@@ -209,9 +211,8 @@ fn a_world_is_judged_under_the_versions_of_its_pin(rt: HostRuntime) -> Result<()
         ("[0,0]", r#"{"code":18,"error":"bad_pin","id":3}"#),
         ("[4294967296]", r#"{"code":2,"error":"bad_shape","id":3}"#),
     ] {
-        let want = format!(in rt.alloc(); "{ACCEPTED}{want}\n0")?;
-        let got = after_check(rt.alloc(), WITH_NAMES, pin, ONLY_A)?;
-        assert_eq!(rt; got.as_slice(), want.as_bytes(), "pin {pin}");
+        let check = [WITH_NAMES, CHECK, pin, ",\"cert\":", ONLY_A, "}"];
+        assert!(rt; gives(rt.alloc(), &check, &[ACCEPTED, want, "\n0"])?);
     }
     Ok(())
 }

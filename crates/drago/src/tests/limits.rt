@@ -1,4 +1,4 @@
-use super::{ASK, PEERS, PUT, answers};
+use super::{ASK, CHECK_LEFT, PEERS, PUT, gives};
 use std::alloc::Global;
 use std::test::Fail;
 
@@ -32,12 +32,10 @@ fn nodes_999(alloc: Global) -> Result<String, Fail> {
     doubled(alloc, odd.as_str(), 3)
 }
 
-/// What a session gives that puts one axiom with these sides.
-fn after_sides(alloc: Global, left: &str, right: &str) -> Result<Vec<u8>, Fail> {
-    let input = format!(in alloc;
-        r#"{PEERS}{{"op":"put","peer":"a","axioms":["(implies {left} {right})"]}}"#
-    )?;
-    answers(alloc, input.as_bytes(), 4096)
+/// Whether a session that puts one axiom with these sides gives these replies.
+fn sides_give(alloc: Global, left: &str, right: &str, want: &str) -> Result<bool, Fail> {
+    let put = "{\"op\":\"put\",\"peer\":\"a\",\"axioms\":[\"(implies ";
+    gives(alloc, &[PEERS, put, left, " ", right, ")\"]}"], &[want])
 }
 
 const IS_PUT: &str = "{\"id\":1,\"peers\":1}\n{\"id\":2,\"put\":\"a\",\"version\":1}\n0";
@@ -49,18 +47,8 @@ const IS_ABOVE: &str =
 fn a_concept_has_at_most_64_levels(rt: HostRuntime) -> Result<(), Fail> {
     for (times, want) in [(63, IS_PUT), (64, IS_ABOVE)] {
         let deep = negated(rt.alloc(), "A", times)?;
-        let left = after_sides(rt.alloc(), deep.as_str(), "B")?;
-        assert_eq!(rt;
-            left.as_slice(),
-            want.as_bytes(),
-            "{times} times on the left"
-        );
-        let right = after_sides(rt.alloc(), "B", deep.as_str())?;
-        assert_eq!(rt;
-            right.as_slice(),
-            want.as_bytes(),
-            "{times} times on the right"
-        );
+        assert!(rt; sides_give(rt.alloc(), deep.as_str(), "B", want)?);
+        assert!(rt; sides_give(rt.alloc(), "B", deep.as_str(), want)?);
     }
     Ok(())
 }
@@ -70,18 +58,8 @@ fn a_concept_has_at_most_1000_nodes(rt: HostRuntime) -> Result<(), Fail> {
     let wide = nodes_999(rt.alloc())?;
     for (more, want) in [(1, IS_PUT), (2, IS_ABOVE)] {
         let side = negated(rt.alloc(), wide.as_str(), more)?;
-        let left = after_sides(rt.alloc(), side.as_str(), "B")?;
-        assert_eq!(rt;
-            left.as_slice(),
-            want.as_bytes(),
-            "999 nodes and {more} on the left"
-        );
-        let right = after_sides(rt.alloc(), "B", side.as_str())?;
-        assert_eq!(rt;
-            right.as_slice(),
-            want.as_bytes(),
-            "999 nodes and {more} on the right"
-        );
+        assert!(rt; sides_give(rt.alloc(), side.as_str(), "B", want)?);
+        assert!(rt; sides_give(rt.alloc(), "B", side.as_str(), want)?);
     }
     Ok(())
 }
@@ -96,9 +74,14 @@ fn a_name_has_at_most_64_bytes(rt: HostRuntime) -> Result<(), Fail> {
             "{\"id\":1,\"peers\":1}\n{\"code\":3,\"error\":\"bad_concept\",\"id\":2,\"n\":0}\n0",
         ),
     ] {
-        let name = format!(in rt.alloc(); "{longest}{last}")?;
-        let got = after_sides(rt.alloc(), name.as_str(), "top")?;
-        assert_eq!(rt; got.as_slice(), want.as_bytes(), "{name} as a name");
+        let put = "{\"op\":\"put\",\"peer\":\"a\",\"axioms\":[\"(implies ";
+        assert!(rt;
+            gives(
+                rt.alloc(),
+                &[PEERS, put, longest, last, " top)\"]}"],
+                &[want]
+            )?
+        );
     }
     Ok(())
 }
@@ -138,50 +121,62 @@ fn a_text_is_in_the_grammar_to_the_byte(rt: HostRuntime) -> Result<(), Fail> {
         "(implies A? B)",
         "(implies é B)",
     ] {
-        let input = format!(in rt.alloc();
-            r#"{PEERS}{{"op":"put","peer":"a","axioms":["(implies top (some r (all r bottom)))","{text}","("]}}"#
-        )?;
-        let got = answers(rt.alloc(), input.as_bytes(), 4096)?;
-        assert_eq!(rt; got.as_slice(), want.as_bytes(), "at {text}");
+        let put =
+            "{\"op\":\"put\",\"peer\":\"a\",\"axioms\":[\"(implies top (some r (all r bottom)))\",\"";
+        assert!(rt; gives(rt.alloc(), &[PEERS, put, text, "\",\"(\"]}"], &[want])?);
     }
     Ok(())
 }
 
-/// What a session gives that checks these concepts by an element in A and in no other name.
-fn after_concepts(alloc: Global, left: &str, right: &str, pin: u32) -> Result<Vec<u8>, Fail> {
-    let input = format!(in alloc;
-        r#"{PEERS}{{"op":"check","peer":"a","left":"{left}","right":"{right}","pin":[{pin}],"cert":{{"format":1,"kind":"no","links":[],"locals":[{{"names":[["A",0]],"roles":[],"size":1}}]}}}}"#
-    )?;
-    answers(alloc, input.as_bytes(), 4096)
+/// Whether a check of these concepts, by an element in A and in no other name, is given this reply.
+fn concepts_give(
+    alloc: Global,
+    left: &str,
+    right: &str,
+    pin: &str,
+    want: &str,
+) -> Result<bool, Fail> {
+    let end =
+        ",\"cert\":{\"format\":1,\"kind\":\"no\",\"links\":[],\"locals\":[{\"names\":[[\"A\",0]],\"roles\":[],\"size\":1}]}}";
+    let check = [
+        PEERS,
+        CHECK_LEFT,
+        left,
+        "\",\"right\":\"",
+        right,
+        "\",\"pin\":",
+        pin,
+        end,
+    ];
+    gives(alloc, &check, &["{\"id\":1,\"peers\":1}\n{", want, "}\n0"])
 }
 
 #[test]
 fn the_texts_of_a_check_come_before_its_pin(rt: HostRuntime) -> Result<(), Fail> {
     for (left, times, pin, want) in [
-        ("A", 63, 0, r#""check":"valid","id":2"#),
-        ("A", 63, 1, r#""code":18,"error":"bad_pin","id":2"#),
+        ("A", 63, "[0]", r#""check":"valid","id":2"#),
+        ("A", 63, "[1]", r#""code":18,"error":"bad_pin","id":2"#),
         (
             "A",
             64,
-            1,
+            "[1]",
             r#""code":11,"error":"concept_limit","id":2,"n":1"#,
         ),
-        ("(", 63, 0, r#""code":3,"error":"bad_concept","id":2,"n":0"#),
+        (
+            "(",
+            63,
+            "[0]",
+            r#""code":3,"error":"bad_concept","id":2,"n":0"#,
+        ),
         (
             "(not A",
             64,
-            1,
+            "[1]",
             r#""code":3,"error":"bad_concept","id":2,"n":0"#,
         ),
     ] {
         let right = negated(rt.alloc(), "A", times)?;
-        let want = format!(in rt.alloc(); "{{\"id\":1,\"peers\":1}}\n{{{want}}}\n0")?;
-        let got = after_concepts(rt.alloc(), left, right.as_str(), pin)?;
-        assert_eq!(rt;
-            got.as_slice(),
-            want.as_bytes(),
-            "{left}, and {times} times, pin {pin}"
-        );
+        assert!(rt; concepts_give(rt.alloc(), left, right.as_str(), pin, want)?);
     }
     Ok(())
 }
@@ -193,13 +188,7 @@ fn a_text_of_any_depth_is_read(rt: HostRuntime) -> Result<(), Fail> {
         ("B", r#""code":11,"error":"concept_limit","id":2,"n":0"#),
         ("(", r#""code":3,"error":"bad_concept","id":2,"n":1"#),
     ] {
-        let want = format!(in rt.alloc(); "{{\"id\":1,\"peers\":1}}\n{{{want}}}\n0")?;
-        let got = after_concepts(rt.alloc(), deep.as_str(), right, 0)?;
-        assert_eq!(rt;
-            got.as_slice(),
-            want.as_bytes(),
-            "with {right} on the right"
-        );
+        assert!(rt; concepts_give(rt.alloc(), deep.as_str(), right, "[0]", want)?);
     }
     Ok(())
 }
@@ -208,36 +197,51 @@ fn a_text_of_any_depth_is_read(rt: HostRuntime) -> Result<(), Fail> {
 fn a_deep_concept_is_not_asked_about(rt: HostRuntime) -> Result<(), Fail> {
     for times in [1, 63, 64] {
         let left = negated(rt.alloc(), "A", times)?;
-        let input = format!(in rt.alloc();
-            r#"{PEERS}{{"op":"ask","peer":"a","left":"{left}","right":"B"}}"#
-        )?;
-        let got = answers(rt.alloc(), input.as_bytes(), 4096)?;
-        assert_eq!(rt;
-            got.as_slice(),
-            &b"{\"id\":1,\"peers\":1}\n{\"code\":17,\"error\":\"not_built\",\"id\":2}\n0"[..],
-            "{times} times"
-        );
+        let ask = [
+            PEERS,
+            "{\"op\":\"ask\",\"peer\":\"a\",\"left\":\"",
+            left.as_str(),
+            "\",\"right\":\"B\"}",
+        ];
+        let told = "{\"id\":1,\"peers\":1}\n{\"code\":17,\"error\":\"not_built\",\"id\":2}\n0";
+        assert!(rt; gives(rt.alloc(), &ask, &[told])?);
     }
     Ok(())
 }
 
-/// A line that puts an axiom with this left side, as many between A and C, and one with this text.
-fn put_between(alloc: Global, left: &str, count: u32, last: &str) -> Result<String, Fail> {
-    let mut line = format!(in alloc; r#"{{"op":"put","peer":"a","axioms":["(implies {left} B)""#)?;
+/// The text of an axiom between A and C, with a comma before it, so many times.
+fn commons(alloc: Global, count: u32) -> Result<String, Fail> {
+    let mut texts = String::new(alloc);
     for _ in 0..count {
-        line.push_str(",\"(implies A C)\"")?;
+        texts.push_str(",\"(implies A C)\"")?;
     }
-    let end = format!(in alloc; ",\"{last}\"]}}\n")?;
-    line.push_str(end.as_str())?;
-    Ok(line)
+    Ok(texts)
 }
 
-/// What a session gives that has a put of 2,001 axioms, the first with this left side and the last with this text, and then
-/// its first put.
-fn after_many(alloc: Global, left: &str, last: &str) -> Result<Vec<u8>, Fail> {
-    let many = put_between(alloc, left, 1999, last)?;
-    let input = format!(in alloc; "{PEERS}{many}{PUT}{ASK}")?;
-    answers(alloc, input.as_bytes(), 4096)
+const PUT_FRONT: &str = "{\"op\":\"put\",\"peer\":\"a\",\"axioms\":[\"(implies ";
+
+/// Whether this reply is given to a put of 2,001 axioms, the first with this left side and the last with this text, before
+/// the first put that is accepted.
+fn many_give(alloc: Global, left: &str, last: &str, want: &str) -> Result<bool, Fail> {
+    let many = commons(alloc, 1999)?;
+    let lines = [
+        PEERS,
+        PUT_FRONT,
+        left,
+        " B)\"",
+        many.as_str(),
+        ",\"",
+        last,
+        "\"]}\n",
+        PUT,
+        ASK,
+    ];
+    let told = [
+        "{\"id\":1,\"peers\":1}\n{",
+        want,
+        "}\n{\"id\":3,\"put\":\"a\",\"version\":1}\n{\"id\":4,\"pin\":[1],\"verdict\":\"yes\"}\n0",
+    ];
+    gives(alloc, &lines, &told)
 }
 
 #[test]
@@ -262,30 +266,28 @@ fn an_axiom_outside_comes_before_one_above_and_that_before_their_number(
         ),
     ] {
         let left = negated(rt.alloc(), "A", times)?;
-        let want = format!(in rt.alloc();
-            "{{\"id\":1,\"peers\":1}}\n{{{want}}}\n{{\"id\":3,\"put\":\"a\",\"version\":1}}\n{{\"id\":4,\"pin\":[1],\"verdict\":\"yes\"}}\n0"
-        )?;
-        let got = after_many(rt.alloc(), left.as_str(), last)?;
-        assert_eq!(rt;
-            got.as_slice(),
-            want.as_bytes(),
-            "{times} times on the left, {last}"
-        );
+        assert!(rt; many_give(rt.alloc(), left.as_str(), last, want)?);
     }
     Ok(())
 }
 
 #[test]
 fn a_version_has_at_most_2000_axioms(rt: HostRuntime) -> Result<(), Fail> {
-    let many = put_between(rt.alloc(), "X", 1999, "(implies B C)")?;
-    let most = put_between(rt.alloc(), "A", 1998, "(implies B D)")?;
-    let input = format!(in rt.alloc();
-        r#"{PEERS}{many}{most}{{"op":"ask","peer":"a","left":"A","right":"D"}}"#
-    )?;
-    let got = answers(rt.alloc(), input.as_bytes(), 4096)?;
-    assert_eq!(rt;
-        got.as_slice(),
-        &b"{\"id\":1,\"peers\":1}\n{\"code\":9,\"error\":\"too_many_axioms\",\"id\":2,\"n\":2001}\n{\"id\":3,\"put\":\"a\",\"version\":1}\n{\"id\":4,\"pin\":[1],\"verdict\":\"yes\"}\n0"[..]
-    );
+    let many = commons(rt.alloc(), 1999)?;
+    let most = commons(rt.alloc(), 1998)?;
+    let lines = [
+        PEERS,
+        PUT_FRONT,
+        "X B)\"",
+        many.as_str(),
+        ",\"(implies B C)\"]}\n",
+        PUT_FRONT,
+        "A B)\"",
+        most.as_str(),
+        ",\"(implies B D)\"]}\n{\"op\":\"ask\",\"peer\":\"a\",\"left\":\"A\",\"right\":\"D\"}",
+    ];
+    let told =
+        "{\"id\":1,\"peers\":1}\n{\"code\":9,\"error\":\"too_many_axioms\",\"id\":2,\"n\":2001}\n{\"id\":3,\"put\":\"a\",\"version\":1}\n{\"id\":4,\"pin\":[1],\"verdict\":\"yes\"}\n0";
+    assert!(rt; gives(rt.alloc(), &lines, &[told])?);
     Ok(())
 }

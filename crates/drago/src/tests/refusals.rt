@@ -1,18 +1,11 @@
-use super::{ASK, PEERS, PUT, answers};
-use std::alloc::Global;
+use super::{ASK, PEERS, PUT, gives};
 use std::test::Fail;
 
-/// What a session gives that has this line before its first put.
-fn before_the_put(alloc: Global, line: &str) -> Result<Vec<u8>, Fail> {
-    let input = format!(in alloc; "{PEERS}{line}\n{PUT}{ASK}")?;
-    answers(alloc, input.as_bytes(), 4096)
-}
+const IS_DECLARED: &str = "{\"id\":1,\"peers\":1}\n";
 
-/// What a session gives that has this line after its first put.
-fn after_the_put(alloc: Global, line: &str) -> Result<Vec<u8>, Fail> {
-    let input = format!(in alloc; "{PEERS}{PUT}{line}\n{ASK}")?;
-    answers(alloc, input.as_bytes(), 4096)
-}
+const IS_PUT: &str = "{\"id\":1,\"peers\":1}\n{\"id\":2,\"put\":\"a\",\"version\":1}\n";
+
+const IS_ANSWERED: &str = "\n{\"id\":4,\"pin\":[1],\"verdict\":\"yes\"}\n0";
 
 #[test]
 fn a_put_that_is_refused_leaves_the_first_one_open(rt: HostRuntime) -> Result<(), Fail> {
@@ -50,27 +43,23 @@ fn a_put_that_is_refused_leaves_the_first_one_open(rt: HostRuntime) -> Result<()
             r#""check":"valid","id":2"#,
         ),
     ] {
-        let want = format!(in rt.alloc();
-            "{{\"id\":1,\"peers\":1}}\n{{{reply}}}\n{{\"id\":3,\"put\":\"a\",\"version\":1}}\n{{\"id\":4,\"pin\":[1],\"verdict\":\"yes\"}}\n0"
-        )?;
-        let got = before_the_put(rt.alloc(), line)?;
-        assert_eq!(rt; got.as_slice(), want.as_bytes(), "at {line}");
+        let lines = [PEERS, line, "\n", PUT, ASK];
+        let told = [
+            IS_DECLARED,
+            "{",
+            reply,
+            "}\n{\"id\":3,\"put\":\"a\",\"version\":1}",
+            IS_ANSWERED,
+        ];
+        assert!(rt; gives(rt.alloc(), &lines, &told)?);
     }
     Ok(())
-}
-
-/// The same lines as after the put, with one code for all.
-fn wants(alloc: Global, reply: &str) -> Result<String, Fail> {
-    Ok(format!(in alloc;
-        "{{\"id\":1,\"peers\":1}}\n{{\"id\":2,\"put\":\"a\",\"version\":1}}\n{{{reply},\"id\":3}}\n{{\"id\":4,\"pin\":[1],\"verdict\":\"yes\"}}\n0"
-    )?)
 }
 
 #[test]
 fn what_is_not_accepted_yet_is_refused_before_its_texts_are_read(
     rt: HostRuntime,
 ) -> Result<(), Fail> {
-    let want = wants(rt.alloc(), r#""code":17,"error":"not_built""#)?;
     for line in [
         r#"{"op":"peers","names":["a"]}"#,
         r#"{"op":"peers","names":[]}"#,
@@ -86,15 +75,19 @@ fn what_is_not_accepted_yet_is_refused_before_its_texts_are_read(
         r#"{"op":"check","peer":"b","left":"A","right":"C","pin":[1],"cert":{}}"#,
         r#"{"op":"check","peer":"a","left":"(","right":"C","pin":[],"cert":{"kind":"yes"}}"#,
     ] {
-        let got = after_the_put(rt.alloc(), line)?;
-        assert_eq!(rt; got.as_slice(), want.as_bytes(), "at {line}");
+        let lines = [PEERS, PUT, line, "\n", ASK];
+        let told = [
+            IS_PUT,
+            "{\"code\":17,\"error\":\"not_built\",\"id\":3}",
+            IS_ANSWERED,
+        ];
+        assert!(rt; gives(rt.alloc(), &lines, &told)?);
     }
     Ok(())
 }
 
 #[test]
 fn a_value_of_no_form_is_refused(rt: HostRuntime) -> Result<(), Fail> {
-    let want = wants(rt.alloc(), r#""code":2,"error":"bad_shape""#)?;
     for line in [
         "null",
         "7",
@@ -118,15 +111,19 @@ fn a_value_of_no_form_is_refused(rt: HostRuntime) -> Result<(), Fail> {
         r#"{"op":"check","peer":"a","left":"A","right":"C","pin":[1.0],"cert":{}}"#,
         r#"{"op":"check","peer":"a","left":"A","right":"C","pin":[4294967296],"cert":{"kind":"yes"}}"#,
     ] {
-        let got = after_the_put(rt.alloc(), line)?;
-        assert_eq!(rt; got.as_slice(), want.as_bytes(), "at {line}");
+        let lines = [PEERS, PUT, line, "\n", ASK];
+        let told = [
+            IS_PUT,
+            "{\"code\":2,\"error\":\"bad_shape\",\"id\":3}",
+            IS_ANSWERED,
+        ];
+        assert!(rt; gives(rt.alloc(), &lines, &told)?);
     }
     Ok(())
 }
 
 #[test]
 fn a_number_is_whole_and_has_digits_alone(rt: HostRuntime) -> Result<(), Fail> {
-    let want = wants(rt.alloc(), r#""code":2,"error":"bad_shape""#)?;
     for number in [
         "1.0",
         "-0",
@@ -136,11 +133,14 @@ fn a_number_is_whole_and_has_digits_alone(rt: HostRuntime) -> Result<(), Fail> {
         "null",
         r#""1""#,
     ] {
-        let line = format!(in rt.alloc();
-            r#"{{"op":"ask","peer":"a","left":"A","right":"C","expansions":{number}}}"#
-        )?;
-        let got = after_the_put(rt.alloc(), line.as_str())?;
-        assert_eq!(rt; got.as_slice(), want.as_bytes(), "at {number}");
+        let front = "{\"op\":\"ask\",\"peer\":\"a\",\"left\":\"A\",\"right\":\"C\",\"expansions\":";
+        let lines = [PEERS, PUT, front, number, "}\n", ASK];
+        let told = [
+            IS_PUT,
+            "{\"code\":2,\"error\":\"bad_shape\",\"id\":3}",
+            IS_ANSWERED,
+        ];
+        assert!(rt; gives(rt.alloc(), &lines, &told)?);
     }
     Ok(())
 }
@@ -161,11 +161,13 @@ fn the_last_of_equal_members_counts(rt: HostRuntime) -> Result<(), Fail> {
             r#"{"check":"valid","id":3}"#,
         ),
     ] {
-        let want = format!(in rt.alloc();
-            "{{\"id\":1,\"peers\":1}}\n{{\"id\":2,\"put\":\"a\",\"version\":1}}\n{reply}\n{{\"id\":4,\"pin\":[1],\"verdict\":\"yes\"}}\n0"
-        )?;
-        let got = after_the_put(rt.alloc(), line)?;
-        assert_eq!(rt; got.as_slice(), want.as_bytes(), "at {line}");
+        assert!(rt;
+            gives(
+                rt.alloc(),
+                &[PEERS, PUT, line, "\n", ASK],
+                &[IS_PUT, reply, IS_ANSWERED]
+            )?
+        );
     }
     Ok(())
 }
@@ -181,16 +183,10 @@ fn other_axioms_are_put_and_not_asked_about(rt: HostRuntime) -> Result<(), Fail>
         "(implies A (some r C))",
         "(implies A (all r C))",
     ] {
-        let input = format!(in rt.alloc();
-            r#"{PEERS}{{"op":"put","peer":"a","axioms":["(implies A B)","{text}"]}}
-{{"op":"ask","peer":"a","left":"A","right":"B"}}"#
-        )?;
-        let got = answers(rt.alloc(), input.as_bytes(), 4096)?;
-        assert_eq!(rt;
-            got.as_slice(),
-            &b"{\"id\":1,\"peers\":1}\n{\"id\":2,\"put\":\"a\",\"version\":1}\n{\"code\":17,\"error\":\"not_built\",\"id\":3}\n0"[..],
-            "with {text}"
-        );
+        let put = "{\"op\":\"put\",\"peer\":\"a\",\"axioms\":[\"(implies A B)\",\"";
+        let ask = "\"]}\n{\"op\":\"ask\",\"peer\":\"a\",\"left\":\"A\",\"right\":\"B\"}";
+        let told = [IS_PUT, "{\"code\":17,\"error\":\"not_built\",\"id\":3}\n0"];
+        assert!(rt; gives(rt.alloc(), &[PEERS, put, text, ask], &told)?);
     }
     Ok(())
 }
