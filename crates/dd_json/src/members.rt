@@ -1,4 +1,4 @@
-ghost use Rattle.std.specs.Prelude.{◌≡◌, Some, option_map, is_some};
+ghost use Rattle.std.specs.Prelude.{◌≡◌, ◌≢◌, Some, Err, option_map, is_some};
 ghost use Rattle.serde_json.specs.Find.{get};
 ghost use Rattle.serde_json.specs.View.{view, items_view};
 ghost use Rattle.dd_json.specs.Members.{text_of, text_at, texts_of, texts_at, listed_at, number_of, maybe_number_at, indexes_of, indexes_at, items_at, presence, sized};
@@ -31,7 +31,8 @@ pub fn text(alloc: Global, value: &Value, key: &str) -> Result<Text, ShapeErr>
 
 /// A member that is a list, as its items.
 pub fn list<'a>(value: &'a Value, key: &str) -> Result<&'a [Value], ShapeErr>
-    ensures { GivesSeen (λ v. items_view v.now) result (items_at key.now (view value.now)) }
+    ensures gives { GivesSeen (λ v. items_view v.now) result (items_at key.now (view value.now)) }
+    ensures no_memory { result ≢ Err ShapeErr.NoMemory }
 {
     match value.get(key).and_then(Value::as_array) {
         Some(list) => Ok(list.as_slice()),
@@ -69,7 +70,8 @@ pub fn listed(alloc: Global, value: &Value, key: &str) -> Result<Items<Text>, Sh
 
 /// A whole number from 0 to 18,446,744,073,709,551,615 that is written with digits alone.
 pub fn number_in(value: &Value) -> Result<u64, ShapeErr>
-    ensures { Gives result (number_of (view value.now)) }
+    ensures gives { Gives result (number_of (view value.now)) }
+    ensures no_memory { result ≢ Err ShapeErr.NoMemory }
 {
     match value.as_u64() {
         Some(n) => Ok(n),
@@ -79,7 +81,8 @@ pub fn number_in(value: &Value) -> Result<u64, ShapeErr>
 
 /// A member that is such a number, where it is there.
 pub fn maybe_number(value: &Value, key: &str) -> Result<Option<u64>, ShapeErr>
-    ensures { Gives result (maybe_number_at key.now (view value.now)) }
+    ensures gives { Gives result (maybe_number_at key.now (view value.now)) }
+    ensures no_memory { result ≢ Err ShapeErr.NoMemory }
 {
     match value.get(key) {
         Some(member) => Ok(Some(number_in(member)?)),
@@ -125,7 +128,8 @@ pub fn has(value: &Value, key: &str) -> bool
 /// Asks that an object have so many members.
 #[tactic(auto, using(crate::proofs::MemberCounts::count_of_members))]
 pub fn wants_members(value: &Value, count: usize) -> Result<(), ShapeErr>
-    ensures { Gives result (sized count (view value.now)) }
+    ensures gives { Gives result (sized count (view value.now)) }
+    ensures no_memory { result ≢ Err ShapeErr.NoMemory }
 {
     let Some(members) = value.as_object() else {
         return Err(ShapeErr::Shape);
