@@ -11,8 +11,6 @@ mod form;
 mod limits;
 mod read;
 mod shape;
-#[cfg(test)]
-mod tests;
 
 pub use dd_concept::NoMemory;
 pub use form::{LocalForm, WorldForm};

@@ -9,8 +9,6 @@ mod equal;
 mod items;
 mod measure;
 mod normal;
-#[cfg(test)]
-mod tests;
 
 pub use concept::{Axiom, Concept};
 pub use equal::{copy, copy_axiom, same};

@@ -8,8 +8,6 @@ mod interp;
 mod laws;
 mod meaning;
 mod shape;
-#[cfg(test)]
-mod tests;
 mod union;
 
 pub use dd_concept::NoMemory;

@@ -5,8 +5,6 @@
 
 mod members;
 mod shape;
-#[cfg(test)]
-mod tests;
 
 pub use dd_concept::NoMemory;
 pub use members::{

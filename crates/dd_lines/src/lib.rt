@@ -19,6 +19,3 @@ pub use reader::{LineReader, LineStep, ReadErr};
 pub use standard::{StdSink, StdSource};
 pub use std::alloc::AllocError as NoMemory;
 pub use write::write_whole;
-
-#[cfg(test)]
-mod tests;

@@ -6,8 +6,6 @@
 
 mod check;
 mod shared;
-#[cfg(test)]
-mod tests;
 mod version;
 
 pub use check::{MAX_AXIOMS, MAX_RULES, PeerErr};

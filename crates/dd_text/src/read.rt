@@ -169,6 +169,3 @@ pub fn read_axiom(
         }
     }
 }
-
-#[cfg(test)]
-mod tests;

@@ -218,27 +218,3 @@ fn add_text(
     };
     Ok(at as u32)
 }
-
-#[cfg(test)]
-mod tests {
-    use super::*;
-    use std::test::Fail;
-
-    #[test]
-    fn numbers_names_and_roles_apart(rt: HostRuntime) -> Result<(), Fail> {
-        let alloc = rt.alloc();
-        let mut symbols = Symbols::new(alloc)?;
-        assert_eq!(rt; symbols.add_name(alloc, b"Dog")?, 0);
-        assert_eq!(rt; symbols.add_name(alloc, b"Cat")?, 1);
-        assert_eq!(rt; symbols.add_role(alloc, b"Cat")?, 0);
-        assert_eq!(rt; symbols.add_name(alloc, b"Dog")?, 0);
-        let mark = symbols.mark();
-        assert_eq!(rt; symbols.add_role(alloc, b"sees")?, 1);
-        assert_eq!(rt; symbols.role_count(), 2);
-        symbols.back(mark);
-        assert_eq!(rt; symbols.role_count(), 1);
-        assert_eq!(rt; symbols.name_count(), 2);
-        assert!(rt; matches!(symbols.add_name(alloc, b"some"), Err(NameErr::Bad)));
-        Ok(())
-    }
-}

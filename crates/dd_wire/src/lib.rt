@@ -27,7 +27,7 @@ pub use dd_json::Text;
 pub use dd_peer::Pin;
 pub use form::{Form, RuleForm};
 pub use line::{read_form, read_request};
-pub use lookup::resolve;
+pub use lookup::{are_peers, resolve};
 pub use names::Names;
 pub use print::print_reply;
 pub use reply::{BadWorld, Reply, Unread};

@@ -83,6 +83,3 @@ fn read_accepted(alloc: Global, names: Option<&Names>, line: &[u8]) -> Result<Fo
         Err(refusal(NOT_BUILT))
     }
 }
-
-#[cfg(test)]
-mod tests;

@@ -132,7 +132,7 @@ fn peers(names: Option<&Names>, wanted: Items<Text>) -> Result<Request, WireErr>
 }
 
 /// Whether these are 1 to 64 different names.
-fn are_peers(names: &[Text]) -> bool
+pub fn are_peers(names: &[Text]) -> bool
     ensures { result ≡ are_peers names.now }
 {
     1 <= names.len() && names.len() <= MOST_PEERS && are_all_names(names) && are_distinct(names)
@@ -296,6 +296,3 @@ fn put(
         Err(e) => Err(e),
     }
 }
-
-#[cfg(test)]
-mod tests;

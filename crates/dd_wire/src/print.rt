@@ -129,6 +129,3 @@ fn list_of(alloc: Global, list: &[u32]) -> Result<Value, NoMemory>
     }
     Ok(Value::Array(values))
 }
-
-#[cfg(test)]
-mod tests;

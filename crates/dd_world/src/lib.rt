@@ -11,8 +11,6 @@ mod included;
 mod laws;
 mod rules;
 mod shape;
-#[cfg(test)]
-mod tests;
 mod world;
 
 pub use check::check_world;

@@ -1,4 +1,4 @@
-use crate::{Axiom, Concept, Items, NoMemory, copy, copy_axiom, nnf, nnf_not, same};
+use dd_concept::{Axiom, Concept, Items, NoMemory, copy, copy_axiom, nnf, nnf_not, same};
 use sqlite_items::Boxed;
 use std::alloc::Global;
 use std::test::Fail;
@@ -47,56 +47,65 @@ fn sample_nnf_not(alloc: Global) -> Result<Concept, NoMemory> {
     or(alloc, seven, each)
 }
 
-#[test]
-fn nnf_pushes_not_down_to_names(rt: HostRuntime) -> Result<(), Fail> {
-    let alloc = rt.alloc();
-    let found = nnf(alloc, &sample(alloc, 3)?)?;
-    let wanted = sample_nnf(alloc)?;
-    assert!(rt; same(&found, &wanted));
-    Ok(())
+// Whether the normal forms of a concept and of its complement are these.
+fn has_normal_forms(
+    alloc: Global,
+    c: &Concept,
+    positive: &Concept,
+    negative: &Concept,
+) -> Result<bool, NoMemory> {
+    let found = nnf(alloc, c)?;
+    let turned = nnf_not(alloc, c)?;
+    Ok(same(&found, positive) && same(&turned, negative))
 }
 
 #[test]
-fn nnf_not_turns_each_form(rt: HostRuntime) -> Result<(), Fail> {
-    let alloc = rt.alloc();
-    let found = nnf_not(alloc, &sample(alloc, 3)?)?;
-    let wanted = sample_nnf_not(alloc)?;
-    assert!(rt; same(&found, &wanted));
+fn normal_forms_push_not_down_to_names(rt: HostRuntime) -> Result<(), Fail> {
+    let c = sample(rt.alloc(), 3)?;
+    let positive = sample_nnf(rt.alloc())?;
+    let negative = sample_nnf_not(rt.alloc())?;
+    assert!(rt; has_normal_forms(rt.alloc(), &c, &positive, &negative)?);
     Ok(())
+}
+
+fn is_copied(alloc: Global, c: &Concept) -> Result<bool, NoMemory> {
+    let again = copy(alloc, c)?;
+    Ok(same(&again, c))
+}
+
+fn is_axiom_copied(alloc: Global, axiom: &Axiom) -> Result<bool, NoMemory> {
+    let again = copy_axiom(alloc, axiom)?;
+    Ok(same(&again.left, &axiom.left) && same(&again.right, &axiom.right))
 }
 
 #[test]
 fn copies_are_the_same_and_roles_count(rt: HostRuntime) -> Result<(), Fail> {
-    let alloc = rt.alloc();
-    let c = sample(alloc, 3)?;
-    let again = copy(alloc, &c)?;
-    assert!(rt; same(&again, &c));
-    let other = sample(alloc, 4)?;
-    assert!(rt; !same(&other, &c));
     let axiom = Axiom {
-        left: other,
-        right: c,
+        left: sample(rt.alloc(), 4)?,
+        right: sample(rt.alloc(), 3)?,
     };
-    let twice = copy_axiom(alloc, &axiom)?;
-    assert!(rt; same(&twice.left, &axiom.left));
-    assert!(rt; same(&twice.right, &axiom.right));
+    assert!(rt; !same(&axiom.left, &axiom.right));
+    assert!(rt; is_copied(rt.alloc(), &axiom.left)?);
+    assert!(rt; is_axiom_copied(rt.alloc(), &axiom)?);
     Ok(())
+}
+
+// 4, 2, 4, 2 by each way to add items.
+fn twice(alloc: Global) -> Result<Items<u32>, NoMemory> {
+    let mut items = Items::new(alloc);
+    items.push(4)?;
+    items.push(2)?;
+    let mut again = Items::from_slice(alloc, items.as_slice())?;
+    again.extend_from_slice(items.as_slice())?;
+    Ok(again)
 }
 
 #[test]
 fn items_keep_their_order(rt: HostRuntime) -> Result<(), Fail> {
-    let alloc = rt.alloc();
-    let mut items = Items::new(alloc);
-    items.push(4u32)?;
-    items.push(2u32)?;
-    assert_eq!(rt; items.as_slice(), [4u32, 2].as_slice());
-    let mut again = Items::from_slice(alloc, items.as_slice())?;
-    again.extend_from_slice(items.as_slice())?;
-    assert_eq!(rt; again.as_slice(), [4u32, 2, 4, 2].as_slice());
-    again.truncate(2);
-    let list = again.into_vec();
-    assert_eq!(rt; list.as_slice(), [4u32, 2].as_slice());
-    let moved = Items::from_vec(list);
-    assert_eq!(rt; moved.as_slice(), [4u32, 2].as_slice());
+    let mut items = twice(rt.alloc())?;
+    assert!(rt; items.as_slice() == [4, 2, 4, 2].as_slice());
+    items.truncate(2);
+    let moved = Items::from_vec(items.into_vec());
+    assert!(rt; moved.as_slice() == [4, 2].as_slice());
     Ok(())
 }

@@ -1,5 +1,8 @@
-use super::*;
-use dd_concept::Items;
+use dd_concept::{Items, NoMemory};
+use dd_json::{
+    ShapeErr, Text, count_of, has, indexes, list, listed, maybe_number, number_in, text, text_in,
+    texts, wants_members,
+};
 use serde_json::Value;
 use std::alloc::Global;
 use std::test::Fail;
@@ -53,6 +56,10 @@ fn barred_numbers(alloc: Global, numbers: &[u32]) -> Result<Vec<u8>, NoMemory> {
         out.extend_from_slice(text.as_bytes())?;
     }
     Ok(out)
+}
+
+fn is(got: Vec<u8>, expected: &str) -> bool {
+    got.as_slice() == expected.as_bytes()
 }
 
 fn string_of(alloc: Global, json: &str) -> Result<Vec<u8>, Fail> {
@@ -116,8 +123,7 @@ fn a_text_is_a_string(rt: HostRuntime) -> Result<(), Fail> {
         (r#"["A"]"#, "refused"),
         (r#"{"a":"A"}"#, "refused"),
     ] {
-        let got = string_of(rt.alloc(), json)?;
-        assert_eq!(rt; got.as_slice(), expected.as_bytes(), "of {json}");
+        assert!(rt; is(string_of(rt.alloc(), json)?, expected));
     }
     for (json, expected) in [
         (r#"{"a":""}"#, ""),
@@ -128,8 +134,7 @@ fn a_text_is_a_string(rt: HostRuntime) -> Result<(), Fail> {
         (r#"{"a":["A"]}"#, "refused"),
         (r#"["a","A"]"#, "refused"),
     ] {
-        let got = text_at_a(rt.alloc(), json)?;
-        assert_eq!(rt; got.as_slice(), expected.as_bytes(), "at a in {json}");
+        assert!(rt; is(text_at_a(rt.alloc(), json)?, expected));
     }
     Ok(())
 }
@@ -147,14 +152,8 @@ fn texts_are_a_list_of_strings(rt: HostRuntime) -> Result<(), Fail> {
         (r#"{"a":{}}"#, "refused", "refused"),
         (r#"{"a":null}"#, "refused", "refused"),
     ] {
-        let got = texts_at_a(rt.alloc(), json)?;
-        assert_eq!(rt; got.as_slice(), expected.as_bytes(), "at a in {json}");
-        let got = listed_at_a(rt.alloc(), json)?;
-        assert_eq!(rt;
-            got.as_slice(),
-            expected_listed.as_bytes(),
-            "at a in {json} or absent"
-        );
+        assert!(rt; is(texts_at_a(rt.alloc(), json)?, expected));
+        assert!(rt; is(listed_at_a(rt.alloc(), json)?, expected_listed));
     }
     Ok(())
 }
@@ -169,7 +168,7 @@ fn a_list_has_any_items(rt: HostRuntime) -> Result<(), Fail> {
         (r#"{"b":[]}"#, None),
         ("[[]]", None),
     ] {
-        assert_eq!(rt; items_at_a(rt.alloc(), json)?, expected, "at a in {json}");
+        assert!(rt; items_at_a(rt.alloc(), json)? == expected);
     }
     Ok(())
 }
@@ -188,7 +187,7 @@ fn a_number_has_digits_alone(rt: HostRuntime) -> Result<(), Fail> {
         ("[1]", None),
         ("null", None),
     ] {
-        assert_eq!(rt; number_of(rt.alloc(), json)?, expected, "of {json}");
+        assert!(rt; number_of(rt.alloc(), json)? == expected);
     }
     Ok(())
 }
@@ -210,7 +209,7 @@ fn a_number_may_be_absent(rt: HostRuntime) -> Result<(), Fail> {
         (r#"{"a":"1"}"#, None),
         (r#"{"a":null}"#, None),
     ] {
-        assert_eq!(rt; number_at_a(rt.alloc(), json)?, expected, "at a in {json}");
+        assert!(rt; number_at_a(rt.alloc(), json)? == expected);
     }
     Ok(())
 }
@@ -227,8 +226,7 @@ fn an_index_is_at_most_4294967295(rt: HostRuntime) -> Result<(), Fail> {
         (r#"{"a":1}"#, "refused"),
         ("{}", "refused"),
     ] {
-        let got = indexes_at_a(rt.alloc(), json)?;
-        assert_eq!(rt; got.as_slice(), expected.as_bytes(), "at a in {json}");
+        assert!(rt; is(indexes_at_a(rt.alloc(), json)?, expected));
     }
     Ok(())
 }
@@ -245,11 +243,7 @@ fn an_object_has_each_member_once(rt: HostRuntime) -> Result<(), Fail> {
         ("[]", 0, false),
         ("null", 0, false),
     ] {
-        assert_eq!(rt;
-            is_sized(rt.alloc(), json, count)?,
-            expected,
-            "{count} in {json}"
-        );
+        assert!(rt; is_sized(rt.alloc(), json, count)? == expected);
     }
     for (json, expected) in [
         (r#"{"a":1}"#, (true, 1)),
@@ -258,11 +252,7 @@ fn an_object_has_each_member_once(rt: HostRuntime) -> Result<(), Fail> {
         (r#"["a"]"#, (false, 0)),
         (r#""a""#, (false, 0)),
     ] {
-        assert_eq!(rt;
-            presence_of_a(rt.alloc(), json)?,
-            expected,
-            "of a in {json}"
-        );
+        assert!(rt; presence_of_a(rt.alloc(), json)? == expected);
     }
     Ok(())
 }

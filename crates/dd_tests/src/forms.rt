@@ -1,7 +1,9 @@
-use super::*;
-use crate::form::RuleForm;
-use dd_concept::Items;
+use dd_concept::{Items, NoMemory};
 use dd_json::Text;
+use dd_text::Symbols;
+use dd_wire::{BAD_JSON, BAD_SHAPE, Form, NOT_BUILT, RuleForm, WireErr, read_form, read_request};
+use serde_json::Value;
+use std::alloc::Global;
 use std::test::Fail;
 
 // What the form of a line says, or the code of the refusal.
@@ -11,6 +13,31 @@ fn told(alloc: Global, line: &[u8]) -> Result<Vec<u8>, NoMemory> {
         Err(WireErr::Code { code, n: _ }) => Ok(format!(in alloc; "{code}")?.into_bytes()),
         Err(WireErr::NoMemory) => Err(NoMemory),
     }
+}
+
+fn tells(alloc: Global, line: &[u8], expected: &str) -> Result<bool, NoMemory> {
+    let told = told(alloc, line)?;
+    Ok(told.as_slice() == expected.as_bytes())
+}
+
+// The first of these lines of which something else is told.
+fn first_wrong(alloc: Global, cases: &[(&str, &str)]) -> Result<Option<usize>, NoMemory> {
+    for (i, (line, expected)) in cases.iter().enumerate() {
+        if !tells(alloc, line.as_bytes(), expected)? {
+            return Ok(Some(i));
+        }
+    }
+    Ok(None)
+}
+
+// The first of these lines that has another code than that of a bad form.
+fn first_accepted(alloc: Global, lines: &[&str]) -> Result<Option<usize>, NoMemory> {
+    for (i, line) in lines.iter().enumerate() {
+        if !tells(alloc, line.as_bytes(), "2")? {
+            return Ok(Some(i));
+        }
+    }
+    Ok(None)
 }
 
 fn shown(alloc: Global, form: &Form) -> Result<Vec<u8>, NoMemory> {
@@ -110,7 +137,7 @@ fn show_kind(out: &mut Vec<u8>, cert: &Value) -> Result<(), NoMemory> {
 
 #[test]
 fn a_line_has_one_of_the_forms(rt: HostRuntime) -> Result<(), Fail> {
-    for (line, expected) in [
+    let cases = [
         (r#"{"op":"peers","names":["a","p-1"]}"#, "peers a p-1"),
         (r#" { "names" : [] , "op" : "peers" } "#, "peers"),
         (r#"{"op":"versions"}"#, "versions"),
@@ -147,16 +174,14 @@ fn a_line_has_one_of_the_forms(rt: HostRuntime) -> Result<(), Fail> {
             r#"{"op":"ask","names":1,"op":"peers","names":["a"],"names":["b"]}"#,
             "peers b",
         ),
-    ] {
-        let got = told(rt.alloc(), line.as_bytes())?;
-        assert_eq!(rt; got.as_slice(), expected.as_bytes(), "at {line}");
-    }
+    ];
+    assert_eq!(rt; first_wrong(rt.alloc(), &cases)?, None);
     Ok(())
 }
 
 #[test]
 fn a_value_of_another_shape_has_no_form(rt: HostRuntime) -> Result<(), Fail> {
-    for line in [
+    let lines = [
         "null",
         "1.0",
         r#"["op","versions"]"#,
@@ -187,10 +212,8 @@ fn a_value_of_another_shape_has_no_form(rt: HostRuntime) -> Result<(), Fail> {
         r#"{"op":"check","peer":"a","left":"A","right":"B","pin":[4294967296],"cert":{}}"#,
         r#"{"op":"check","peer":"a","left":"A","right":"B","pin":[1.0],"cert":{}}"#,
         r#"{"op":"check","peer":"a","left":"A","right":"B","pin":[],"cert":{},"x":1}"#,
-    ] {
-        let got = told(rt.alloc(), line.as_bytes())?;
-        assert_eq!(rt; got.as_slice(), b"2".as_slice(), "at {line}");
-    }
+    ];
+    assert_eq!(rt; first_accepted(rt.alloc(), &lines)?, None);
     Ok(())
 }
 
@@ -203,8 +226,7 @@ fn a_line_that_is_no_json_value_is_bad(rt: HostRuntime) -> Result<(), Fail> {
         b"{\"op\":\"versions\xff\"}".as_slice(),
         b"1e999".as_slice(),
     ] {
-        let got = told(rt.alloc(), line)?;
-        assert_eq!(rt; got.as_slice(), b"1".as_slice(), "at {line:?}");
+        assert!(rt; tells(rt.alloc(), line, "1")?);
     }
     Ok(())
 }
@@ -223,26 +245,36 @@ fn nested(alloc: Global, depth: u32) -> Result<Vec<u8>, NoMemory> {
 
 #[test]
 fn a_value_nests_at_most_127_deep(rt: HostRuntime) -> Result<(), Fail> {
-    for (depth, expected) in [(127, b"2".as_slice()), (128, b"1".as_slice())] {
+    for (depth, expected) in [(127, "2"), (128, "1")] {
         let line = nested(rt.alloc(), depth)?;
-        let got = told(rt.alloc(), line.as_slice())?;
-        assert_eq!(rt; got.as_slice(), expected, "{depth} deep");
+        assert!(rt; tells(rt.alloc(), line.as_slice(), expected)?);
     }
     Ok(())
 }
 
-// What a line is answered before any peer is declared: whether its form is accepted, or the code of its refusal.
-fn accepted_first(alloc: Global, line: &[u8]) -> Result<u8, NoMemory> {
-    match read_accepted(alloc, None, line) {
+// What a line is answered before any peer is declared: 0 where it is a request, or the code of its refusal.
+fn code_of_first(alloc: Global, line: &[u8]) -> Result<u8, NoMemory> {
+    let mut symbols = Symbols::new(alloc)?;
+    match read_request(alloc, &mut symbols, None, line) {
         Ok(_) => Ok(0),
         Err(WireErr::Code { code, n: _ }) => Ok(code),
         Err(WireErr::NoMemory) => Err(NoMemory),
     }
 }
 
+// The first of these lines that is answered otherwise.
+fn first_other_code(alloc: Global, cases: &[(&str, u8)]) -> Result<Option<usize>, NoMemory> {
+    for (i, (line, code)) in cases.iter().enumerate() {
+        if code_of_first(alloc, line.as_bytes())? != *code {
+            return Ok(Some(i));
+        }
+    }
+    Ok(None)
+}
+
 #[test]
 fn the_first_request_declares_one_peer(rt: HostRuntime) -> Result<(), Fail> {
-    for (line, code) in [
+    let cases = [
         (r#"{"op":"peers","names":["a"]}"#, 0),
         (r#"{"op":"peers","names":["1"]}"#, NOT_BUILT),
         (r#"{"op":"peers","names":[]}"#, NOT_BUILT),
@@ -259,12 +291,7 @@ fn the_first_request_declares_one_peer(rt: HostRuntime) -> Result<(), Fail> {
         (r#"{"op":"versions"}"#, NOT_BUILT),
         (r#"{"op":"version"}"#, BAD_SHAPE),
         (r#"{"op":"peers","names":["a"]"#, BAD_JSON),
-    ] {
-        assert_eq!(rt;
-            accepted_first(rt.alloc(), line.as_bytes())?,
-            code,
-            "at {line}"
-        );
-    }
+    ];
+    assert_eq!(rt; first_other_code(rt.alloc(), &cases)?, None);
     Ok(())
 }

@@ -1,5 +1,5 @@
-use crate::{Interp, append, holds, is_shaped};
 use dd_concept::{Concept, Items, NoMemory};
+use dd_interp::{Interp, append, holds, is_shaped};
 use sqlite_items::Boxed;
 use std::alloc::Global;
 use std::test::Fail;
@@ -13,15 +13,18 @@ fn sample(alloc: Global) -> Result<Interp, NoMemory> {
     })
 }
 
+// Whether a concept holds at the first element and at the second one.
+fn at_both(i: &Interp, c: &Concept) -> (bool, bool) {
+    (holds(i, 0, c), holds(i, 1, c))
+}
+
 #[test]
 fn quantifiers_follow_the_role(rt: HostRuntime) -> Result<(), Fail> {
     let i = sample(rt.alloc())?;
     let some = Concept::HasSome(7, Boxed::new(rt.alloc(), Concept::Top)?);
+    assert!(rt; at_both(&i, &some) == (true, false));
     let all = Concept::HasAll(7, Boxed::new(rt.alloc(), Concept::Name(5))?);
-    for (x, has_some, has_all) in [(0, true, false), (1, false, true)] {
-        assert_eq!(rt; holds(&i, x, &some), has_some, "some at {x}");
-        assert_eq!(rt; holds(&i, x, &all), has_all, "all at {x}");
-    }
+    assert!(rt; at_both(&i, &all) == (false, true));
     Ok(())
 }
 

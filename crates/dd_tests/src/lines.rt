@@ -1,4 +1,4 @@
-use crate::{
+use dd_lines::{
     LineReader, LineStep, MemSink, MemSource, ReadErr, Sink, Source, StdSink, StdSource,
     write_whole,
 };
@@ -42,7 +42,7 @@ fn lines_are_cut_however_they_are_read(rt: HostRuntime) -> Result<(), Fail> {
             let bytes = input.to_vec(rt.alloc())?;
             let mut source = MemSource::new(bytes, piece, Vec::new(rt.alloc()));
             let signs = answers(rt.alloc(), &mut source, 8)?;
-            assert_eq!(rt; signs.as_slice(), want, "{piece} bytes a call");
+            assert_eq!(rt; signs.as_slice(), want);
         }
     }
     Ok(())

@@ -1,9 +1,9 @@
 ghost use Rattle.std.specs.Prelude.{◌≡◌, ◌+◌, ◌^◌, ◌<◌, All, IsTrue, length};
 
-use crate::{World, WorldFault, check_world};
 use dd_concept::{Axiom, Concept, Items, NoMemory};
 use dd_interp::Interp;
 use dd_peer::{PeerVersion, Pinned, Query, Rule, Shared};
+use dd_world::{World, WorldFault, check_world};
 use std::alloc::Global;
 use std::test::Fail;
 
@@ -62,9 +62,16 @@ fn has_few_rules(p: &Pinned) -> bool
         && v.get().onto.as_slice().len() < 100)
 }
 
-#[test]
-fn the_world_of_one_peer(rt: HostRuntime) -> Result<(), Fail> {
-    let alloc = rt.alloc();
+// What is judged of the world that is to show that A is not below `right` at peer 0, where the versions are short.
+fn judged(p: &Pinned, right: u32, w: &World) -> Option<Result<(), WorldFault>> {
+    if p.peers.as_slice().len() > 2 || !has_few_axioms(p) || !has_few_rules(p) {
+        return None;
+    }
+    Some(check_world(p, &query(0, A, right), w))
+}
+
+// One peer whose axiom is that A is below B.
+fn one_peer(alloc: Global) -> Result<Pinned, NoMemory> {
     let mut axioms = Items::new(alloc);
     axioms.push(Axiom {
         left: Concept::Name(A),
@@ -77,8 +84,21 @@ fn the_world_of_one_peer(rt: HostRuntime) -> Result<(), Fail> {
     };
     let mut peers = Items::new(alloc);
     peers.push(Shared::new(alloc, version)?)?;
-    let p = Pinned { peers };
-    assert!(rt; p.peers.as_slice().len() == 1 && has_few_axioms(&p) && has_few_rules(&p));
+    Ok(Pinned { peers })
+}
+
+fn one_local(alloc: Global, size: u32, names: &[(u32, u32)]) -> Result<World, NoMemory> {
+    let mut locals = Items::new(alloc);
+    locals.push(local(alloc, size, names)?)?;
+    Ok(World {
+        locals,
+        links: Items::new(alloc),
+    })
+}
+
+#[test]
+fn the_world_of_one_peer(rt: HostRuntime) -> Result<(), Fail> {
+    let p = one_peer(rt.alloc())?;
     let missing_b = WorldFault::Axiom { peer: 0, index: 0 };
     let table: [(u32, &[(u32, u32)], Result<(), WorldFault>); 6] = [
         (1, &[(A, 0), (B, 0)], Ok(())),
@@ -89,32 +109,50 @@ fn the_world_of_one_peer(rt: HostRuntime) -> Result<(), Fail> {
         (u32::MAX, &[(A, 7), (B, 7)], Ok(())),
     ];
     for (size, names, wanted) in table {
-        let mut locals = Items::new(alloc);
-        locals.push(local(alloc, size, names)?)?;
-        let w = World {
-            locals,
-            links: Items::new(alloc),
-        };
-        assert_eq!(rt; check_world(&p, &query(0, A, C), &w), wanted);
+        let w = one_local(rt.alloc(), size, names)?;
+        assert!(rt; judged(&p, C, &w) == Some(wanted));
     }
     Ok(())
 }
 
+fn version(
+    alloc: Global,
+    into: (u32, u32, u32),
+    onto: (u32, u32, u32),
+) -> Result<Shared<PeerVersion>, NoMemory> {
+    let into = rules(alloc, &[into])?;
+    let version = PeerVersion {
+        axioms: Items::new(alloc),
+        into,
+        onto: rules(alloc, &[onto])?,
+    };
+    Shared::new(alloc, version)
+}
+
+// Two peers with rules from each other.
+fn two_peers(alloc: Global) -> Result<Pinned, NoMemory> {
+    let mut peers = Items::new(alloc);
+    peers.push(version(alloc, (1, H, B), (1, G, A))?)?;
+    peers.push(version(alloc, (0, B, H), (0, A, G))?)?;
+    Ok(Pinned { peers })
+}
+
+// One element at each peer; that of the second peer is in G.
+fn two_locals(
+    alloc: Global,
+    links: &[(u32, u32, u32, u32)],
+    names: &[(u32, u32)],
+) -> Result<World, NoMemory> {
+    let mut locals = Items::new(alloc);
+    locals.push(local(alloc, 1, names)?)?;
+    locals.push(local(alloc, 1, &[(G, 0)])?)?;
+    let links = Items::from_slice(alloc, links)?;
+    Ok(World { locals, links })
+}
+
 #[test]
 fn links_carry_rules_between_two_peers(rt: HostRuntime) -> Result<(), Fail> {
-    let alloc = rt.alloc();
-    let mut peers = Items::new(alloc);
-    for (into, onto) in [((1, H, B), (1, G, A)), ((0, B, H), (0, A, G))] {
-        let into = rules(alloc, &[into])?;
-        let version = PeerVersion {
-            axioms: Items::new(alloc),
-            into,
-            onto: rules(alloc, &[onto])?,
-        };
-        peers.push(Shared::new(alloc, version)?)?;
-    }
-    let p = Pinned { peers };
-    assert!(rt; p.peers.as_slice().len() == 2 && has_few_axioms(&p) && has_few_rules(&p));
+    let p = two_peers(rt.alloc())?;
     let no_link = WorldFault::Onto { peer: 0, index: 0 };
     let no_h = WorldFault::Into { peer: 1, index: 0 };
     let table: [(
@@ -128,14 +166,8 @@ fn links_carry_rules_between_two_peers(rt: HostRuntime) -> Result<(), Fail> {
         (&[(0, 0, 0, 0)], &[(A, 0)], Err(WorldFault::Shape)),
     ];
     for (links, names, wanted) in table {
-        let mut locals = Items::new(alloc);
-        locals.push(local(alloc, 1, names)?)?;
-        locals.push(local(alloc, 1, &[(G, 0)])?)?;
-        let w = World {
-            locals,
-            links: Items::from_slice(alloc, links)?,
-        };
-        assert_eq!(rt; check_world(&p, &query(0, A, B), &w), wanted);
+        let w = two_locals(rt.alloc(), links, names)?;
+        assert!(rt; judged(&p, B, &w) == Some(wanted));
     }
     Ok(())
 }

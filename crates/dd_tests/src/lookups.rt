@@ -1,7 +1,9 @@
-use super::*;
-use dd_concept::{Axiom, Concept, NoMemory};
-use dd_peer::Rule;
-use std::process::Abort;
+use dd_concept::{Axiom, Concept, Items, NoMemory};
+use dd_json::Text;
+use dd_peer::{PeerVersion, Rule};
+use dd_text::Symbols;
+use dd_wire::{Form, Names, Request, RuleForm, WireErr, are_peers, resolve};
+use std::alloc::Global;
 use std::test::Fail;
 
 fn texts(alloc: Global, list: &[&[u8]]) -> Result<Items<Text>, NoMemory> {
@@ -21,9 +23,11 @@ fn numbered(alloc: Global, count: u8) -> Result<Items<Text>, NoMemory> {
     Ok(found)
 }
 
-fn two_peers(rt: &impl Abort, alloc: Global) -> Result<Names, NoMemory> {
+fn two_peers(alloc: Global) -> Result<Names, NoMemory> {
     let names = texts(alloc, &[b"Here", b"There"])?;
-    assert!(rt; are_peers(names.as_slice()));
+    if !are_peers(names.as_slice()) {
+        return Err(NoMemory);
+    }
     Names::new(alloc, &names)
 }
 
@@ -91,18 +95,10 @@ fn deep(alloc: Global, count: usize) -> Result<Vec<u8>, NoMemory> {
     Ok(text)
 }
 
-// The code of an ask at a new session where two peers are declared.
-fn asked_of(
-    rt: &impl Abort,
-    alloc: Global,
-    peer: &[u8],
-    left: &[u8],
-    right: &[u8],
-) -> Result<(u8, Option<u64>), NoMemory> {
-    let names = two_peers(rt, alloc)?;
+// The code of a form in a new session where these peers are declared.
+fn code_at(alloc: Global, names: &Names, form: Form) -> Result<(u8, Option<u64>), NoMemory> {
     let mut symbols = Symbols::new(alloc)?;
-    let form = ask_form(alloc, peer, left, right)?;
-    Ok(told(resolve(alloc, &mut symbols, Some(&names), form)))
+    Ok(told(resolve(alloc, &mut symbols, Some(names), form)))
 }
 
 #[test]
@@ -118,29 +114,26 @@ fn an_ask_is_refused_by_the_first_test(rt: HostRuntime) -> Result<(), Fail> {
         (b"Here", &long, &long, (11, Some(0))),
         (b"Here", b"A", &long, (11, Some(1))),
     ];
+    let names = two_peers(alloc)?;
     for (peer, left, right, wanted) in cases {
-        assert_eq!(rt; asked_of(&rt, alloc, peer, left, right)?, wanted);
+        let form = ask_form(alloc, peer, left, right)?;
+        assert!(rt; code_at(alloc, &names, form)? == wanted);
     }
     Ok(())
 }
 
-fn code_of_peers(
-    rt: &impl Abort,
-    alloc: Global,
-    again: bool,
-    names: Items<Text>,
-) -> Result<u8, NoMemory> {
+fn code_of_peers(alloc: Global, names: Items<Text>) -> Result<u8, NoMemory> {
     let mut symbols = Symbols::new(alloc)?;
-    if again {
-        let declared = two_peers(rt, alloc)?;
-        return Ok(told(resolve(alloc, &mut symbols, Some(&declared), Form::Peers(names))).0);
-    }
     Ok(told(resolve(alloc, &mut symbols, None, Form::Peers(names))).0)
+}
+
+// The code of a declaration of so many peers with different names.
+fn code_of_so_many(alloc: Global, count: u8) -> Result<u8, NoMemory> {
+    code_of_peers(alloc, numbered(alloc, count)?)
 }
 
 #[test]
 fn peers_are_1_to_64_different_names(rt: HostRuntime) -> Result<(), Fail> {
-    let alloc = rt.alloc();
     let cases: [(&[&[u8]], u8); 4] = [
         (&[b"A", b"B"], 0),
         (&[], 6),
@@ -148,27 +141,33 @@ fn peers_are_1_to_64_different_names(rt: HostRuntime) -> Result<(), Fail> {
         (&[b"A", b"top"], 6),
     ];
     for (names, wanted) in cases {
-        assert_eq!(rt;
-            code_of_peers(&rt, alloc, false, texts(alloc, names)?)?,
-            wanted
-        );
+        let names = texts(rt.alloc(), names)?;
+        assert!(rt; code_of_peers(rt.alloc(), names)? == wanted);
     }
-    assert_eq!(rt; code_of_peers(&rt, alloc, false, numbered(alloc, 64)?)?, 0);
-    assert_eq!(rt; code_of_peers(&rt, alloc, false, numbered(alloc, 65)?)?, 6);
-    assert_eq!(rt; code_of_peers(&rt, alloc, true, numbered(alloc, 2)?)?, 5);
+    assert!(rt; code_of_so_many(rt.alloc(), 64)? == 0);
+    assert!(rt; code_of_so_many(rt.alloc(), 65)? == 6);
     Ok(())
 }
 
 #[test]
-fn what_needs_peers_is_refused_without_them(rt: HostRuntime) -> Result<(), Fail> {
-    let alloc = rt.alloc();
+fn peers_are_declared_once(rt: HostRuntime) -> Result<(), Fail> {
+    let names = two_peers(rt.alloc())?;
+    let form = Form::Peers(numbered(rt.alloc(), 2)?);
+    assert!(rt; code_at(rt.alloc(), &names, form)? == (5, None));
+    Ok(())
+}
+
+// The code of a form in a new session where no peer is declared.
+fn code_without_peers(alloc: Global, form: Form) -> Result<(u8, Option<u64>), NoMemory> {
     let mut symbols = Symbols::new(alloc)?;
-    let form = ask_form(alloc, b"Here", b"A B", b"A")?;
-    assert_eq!(rt; told(resolve(alloc, &mut symbols, None, form)), (4, None));
-    assert_eq!(rt;
-        told(resolve(alloc, &mut symbols, None, Form::Versions)),
-        (4, None)
-    );
+    Ok(told(resolve(alloc, &mut symbols, None, form)))
+}
+
+#[test]
+fn what_needs_peers_is_refused_without_them(rt: HostRuntime) -> Result<(), Fail> {
+    let form = ask_form(rt.alloc(), b"Here", b"A B", b"A")?;
+    assert!(rt; code_without_peers(rt.alloc(), form)? == (4, None));
+    assert!(rt; code_without_peers(rt.alloc(), Form::Versions)? == (4, None));
     Ok(())
 }
 
@@ -214,8 +213,8 @@ fn that_put(alloc: Global) -> Result<Form, NoMemory> {
 }
 
 // Whether that put is read where two peers are declared.
-fn reads_that_put(rt: &impl Abort, alloc: Global, symbols: &mut Symbols) -> Result<bool, NoMemory> {
-    let names = two_peers(rt, alloc)?;
+fn reads_that_put(alloc: Global, symbols: &mut Symbols) -> Result<bool, NoMemory> {
+    let names = two_peers(alloc)?;
     let form = that_put(alloc)?;
     let answer = resolve(alloc, symbols, Some(&names), form);
     Ok(is_that_put(&answer))
@@ -223,12 +222,10 @@ fn reads_that_put(rt: &impl Abort, alloc: Global, symbols: &mut Symbols) -> Resu
 
 #[test]
 fn a_put_numbers_its_symbols_in_order(rt: HostRuntime) -> Result<(), Fail> {
-    let alloc = rt.alloc();
-    let mut symbols = Symbols::new(alloc)?;
-    assert!(rt; reads_that_put(&rt, alloc, &mut symbols)?);
-    assert_eq!(rt; symbols.name_count(), 4);
-    assert_eq!(rt; symbols.role_count(), 1);
-    assert_eq!(rt; symbols.name_number(b"D"), 3);
+    let mut symbols = Symbols::new(rt.alloc())?;
+    assert!(rt; reads_that_put(rt.alloc(), &mut symbols)?);
+    assert!(rt; symbols.name_count() == 4 && symbols.role_count() == 1);
+    assert!(rt; symbols.name_number(b"D") == 3);
     Ok(())
 }
 
@@ -239,23 +236,17 @@ fn cut_put(alloc: Global) -> Result<Form, NoMemory> {
     put_form(alloc, axioms, into, Items::new(alloc))
 }
 
-fn code_of_cut_put(
-    rt: &impl Abort,
-    alloc: Global,
-    symbols: &mut Symbols,
-) -> Result<(u8, Option<u64>), NoMemory> {
-    let names = two_peers(rt, alloc)?;
+fn code_of_cut_put(alloc: Global, symbols: &mut Symbols) -> Result<(u8, Option<u64>), NoMemory> {
+    let names = two_peers(alloc)?;
     let form = cut_put(alloc)?;
     Ok(told(resolve(alloc, symbols, Some(&names), form)))
 }
 
 #[test]
 fn a_refused_put_leaves_the_symbols(rt: HostRuntime) -> Result<(), Fail> {
-    let alloc = rt.alloc();
-    let mut symbols = Symbols::new(alloc)?;
-    symbols.add_name(alloc, b"Old")?;
-    assert_eq!(rt; code_of_cut_put(&rt, alloc, &mut symbols)?, (3, Some(2)));
-    assert_eq!(rt; symbols.name_count(), 1);
-    assert_eq!(rt; symbols.role_count(), 0);
+    let mut symbols = Symbols::new(rt.alloc())?;
+    symbols.add_name(rt.alloc(), b"Old")?;
+    assert!(rt; code_of_cut_put(rt.alloc(), &mut symbols)? == (3, Some(2)));
+    assert!(rt; symbols.name_count() == 1 && symbols.role_count() == 0);
     Ok(())
 }

@@ -1,5 +1,5 @@
-use crate::{PeerErr, PeerVersion, Rule, Shared};
 use dd_concept::{Concept, Items, NoMemory};
+use dd_peer::{PeerErr, PeerVersion, Rule, Shared};
 use std::alloc::Global;
 use std::test::Fail;
 
