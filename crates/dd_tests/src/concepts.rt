@@ -59,13 +59,24 @@ fn has_normal_forms(
     Ok(same(&found, positive) && same(&turned, negative))
 }
 
+fn has_forms_of_sample(alloc: Global, c: &Concept) -> Result<bool, NoMemory> {
+    let positive = sample_nnf(alloc)?;
+    let negative = sample_nnf_not(alloc)?;
+    has_normal_forms(alloc, c, &positive, &negative)
+}
+
 #[test]
 fn normal_forms_push_not_down_to_names(rt: HostRuntime) -> Result<(), Fail> {
     let c = sample(rt.alloc(), 3)?;
-    let positive = sample_nnf(rt.alloc())?;
-    let negative = sample_nnf_not(rt.alloc())?;
-    assert!(rt; has_normal_forms(rt.alloc(), &c, &positive, &negative)?);
+    assert!(rt; has_forms_of_sample(rt.alloc(), &c)?);
     Ok(())
+}
+
+// An axiom whose sides differ in a role alone.
+fn sample_axiom(alloc: Global) -> Result<Axiom, NoMemory> {
+    let left = sample(alloc, 4)?;
+    let right = sample(alloc, 3)?;
+    Ok(Axiom { left, right })
 }
 
 fn is_copied(alloc: Global, c: &Concept) -> Result<bool, NoMemory> {
@@ -78,15 +89,15 @@ fn is_axiom_copied(alloc: Global, axiom: &Axiom) -> Result<bool, NoMemory> {
     Ok(same(&again.left, &axiom.left) && same(&again.right, &axiom.right))
 }
 
+fn are_copied(alloc: Global, axiom: &Axiom) -> Result<bool, NoMemory> {
+    Ok(is_copied(alloc, &axiom.left)? && is_axiom_copied(alloc, axiom)?)
+}
+
 #[test]
 fn copies_are_the_same_and_roles_count(rt: HostRuntime) -> Result<(), Fail> {
-    let axiom = Axiom {
-        left: sample(rt.alloc(), 4)?,
-        right: sample(rt.alloc(), 3)?,
-    };
+    let axiom = sample_axiom(rt.alloc())?;
     assert!(rt; !same(&axiom.left, &axiom.right));
-    assert!(rt; is_copied(rt.alloc(), &axiom.left)?);
-    assert!(rt; is_axiom_copied(rt.alloc(), &axiom)?);
+    assert!(rt; are_copied(rt.alloc(), &axiom)?);
     Ok(())
 }
 

@@ -1,7 +1,6 @@
 use dd_concept::{Items, NoMemory};
 use dd_json::Text;
-use dd_text::Symbols;
-use dd_wire::{BAD_JSON, BAD_SHAPE, Form, NOT_BUILT, RuleForm, WireErr, read_form, read_request};
+use dd_wire::{Form, RuleForm, WireErr, read_form};
 use serde_json::Value;
 use std::alloc::Global;
 use std::test::Fail;
@@ -24,16 +23,6 @@ fn tells(alloc: Global, line: &[u8], expected: &str) -> Result<bool, NoMemory> {
 fn first_wrong(alloc: Global, cases: &[(&str, &str)]) -> Result<Option<usize>, NoMemory> {
     for (i, (line, expected)) in cases.iter().enumerate() {
         if !tells(alloc, line.as_bytes(), expected)? {
-            return Ok(Some(i));
-        }
-    }
-    Ok(None)
-}
-
-// The first of these lines that has another code than that of a bad form.
-fn first_accepted(alloc: Global, lines: &[&str]) -> Result<Option<usize>, NoMemory> {
-    for (i, line) in lines.iter().enumerate() {
-        if !tells(alloc, line.as_bytes(), "2")? {
             return Ok(Some(i));
         }
     }
@@ -179,58 +168,6 @@ fn a_line_has_one_of_the_forms(rt: HostRuntime) -> Result<(), Fail> {
     Ok(())
 }
 
-#[test]
-fn a_value_of_another_shape_has_no_form(rt: HostRuntime) -> Result<(), Fail> {
-    let lines = [
-        "null",
-        "1.0",
-        r#"["op","versions"]"#,
-        "{}",
-        r#"{"op":"version"}"#,
-        r#"{"op":["versions"]}"#,
-        r#"{"op":"versions","peer":"a"}"#,
-        r#"{"op":"peers"}"#,
-        r#"{"op":"peers","names":"a"}"#,
-        r#"{"op":"peers","names":["a",1]}"#,
-        r#"{"op":"peers","names":[],"x":1}"#,
-        r#"{"op":"put","axioms":[]}"#,
-        r#"{"op":"put","peer":"a","axioms":null}"#,
-        r#"{"op":"put","peer":"a","into":[1]}"#,
-        r#"{"op":"put","peer":"a","into":{}}"#,
-        r#"{"op":"put","peer":"a","onto":[{"from":"b","source":"A"}]}"#,
-        r#"{"op":"put","peer":"a","onto":[{"from":"b","source":"A","target":"B","x":1}]}"#,
-        r#"{"op":"put","peer":"a","left":"A"}"#,
-        r#"{"op":"ask","peer":"a","left":"A"}"#,
-        r#"{"op":"ask","peer":"a","left":"A","right":"B","pin":[]}"#,
-        r#"{"op":"ask","peer":"a","left":"A","right":"B","verdicts":1.0}"#,
-        r#"{"op":"ask","peer":"a","left":"A","right":"B","verdicts":-0}"#,
-        r#"{"op":"ask","peer":"a","left":"A","right":"B","verdicts":1e3}"#,
-        r#"{"op":"ask","peer":"a","left":"A","right":"B","expansions":18446744073709551616}"#,
-        r#"{"op":"ask","peer":"a","left":"A","right":"B","expansions":null}"#,
-        r#"{"op":"check","peer":"a","left":"A","right":"B","pin":[]}"#,
-        r#"{"op":"check","peer":"a","left":"A","right":"B","cert":{}}"#,
-        r#"{"op":"check","peer":"a","left":"A","right":"B","pin":[4294967296],"cert":{}}"#,
-        r#"{"op":"check","peer":"a","left":"A","right":"B","pin":[1.0],"cert":{}}"#,
-        r#"{"op":"check","peer":"a","left":"A","right":"B","pin":[],"cert":{},"x":1}"#,
-    ];
-    assert_eq!(rt; first_accepted(rt.alloc(), &lines)?, None);
-    Ok(())
-}
-
-#[test]
-fn a_line_that_is_no_json_value_is_bad(rt: HostRuntime) -> Result<(), Fail> {
-    for line in [
-        b"".as_slice(),
-        b"{\"op\":\"versions\"".as_slice(),
-        b"{\"op\":\"versions\"} x".as_slice(),
-        b"{\"op\":\"versions\xff\"}".as_slice(),
-        b"1e999".as_slice(),
-    ] {
-        assert!(rt; tells(rt.alloc(), line, "1")?);
-    }
-    Ok(())
-}
-
 // Lists in lists, so deep.
 fn nested(alloc: Global, depth: u32) -> Result<Vec<u8>, NoMemory> {
     let mut line = Vec::new(alloc);
@@ -249,49 +186,5 @@ fn a_value_nests_at_most_127_deep(rt: HostRuntime) -> Result<(), Fail> {
         let line = nested(rt.alloc(), depth)?;
         assert!(rt; tells(rt.alloc(), line.as_slice(), expected)?);
     }
-    Ok(())
-}
-
-// What a line is answered before any peer is declared: 0 where it is a request, or the code of its refusal.
-fn code_of_first(alloc: Global, line: &[u8]) -> Result<u8, NoMemory> {
-    let mut symbols = Symbols::new(alloc)?;
-    match read_request(alloc, &mut symbols, None, line) {
-        Ok(_) => Ok(0),
-        Err(WireErr::Code { code, n: _ }) => Ok(code),
-        Err(WireErr::NoMemory) => Err(NoMemory),
-    }
-}
-
-// The first of these lines that is answered otherwise.
-fn first_other_code(alloc: Global, cases: &[(&str, u8)]) -> Result<Option<usize>, NoMemory> {
-    for (i, (line, code)) in cases.iter().enumerate() {
-        if code_of_first(alloc, line.as_bytes())? != *code {
-            return Ok(Some(i));
-        }
-    }
-    Ok(None)
-}
-
-#[test]
-fn the_first_request_declares_one_peer(rt: HostRuntime) -> Result<(), Fail> {
-    let cases = [
-        (r#"{"op":"peers","names":["a"]}"#, 0),
-        (r#"{"op":"peers","names":["1"]}"#, NOT_BUILT),
-        (r#"{"op":"peers","names":[]}"#, NOT_BUILT),
-        (r#"{"op":"peers","names":["a","b"]}"#, NOT_BUILT),
-        (r#"{"op":"put","peer":"a"}"#, NOT_BUILT),
-        (
-            r#"{"op":"ask","peer":"a","left":"A","right":"B"}"#,
-            NOT_BUILT,
-        ),
-        (
-            r#"{"op":"check","peer":"a","left":"A","right":"B","pin":[],"cert":{}}"#,
-            NOT_BUILT,
-        ),
-        (r#"{"op":"versions"}"#, NOT_BUILT),
-        (r#"{"op":"version"}"#, BAD_SHAPE),
-        (r#"{"op":"peers","names":["a"]"#, BAD_JSON),
-    ];
-    assert_eq!(rt; first_other_code(rt.alloc(), &cases)?, None);
     Ok(())
 }

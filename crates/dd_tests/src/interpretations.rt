@@ -18,25 +18,49 @@ fn at_both(i: &Interp, c: &Concept) -> (bool, bool) {
     (holds(i, 0, c), holds(i, 1, c))
 }
 
+fn some_top(alloc: Global) -> Result<Concept, NoMemory> {
+    Ok(Concept::HasSome(7, Boxed::new(alloc, Concept::Top)?))
+}
+
+fn all_name(alloc: Global) -> Result<Concept, NoMemory> {
+    Ok(Concept::HasAll(7, Boxed::new(alloc, Concept::Name(5))?))
+}
+
 #[test]
-fn quantifiers_follow_the_role(rt: HostRuntime) -> Result<(), Fail> {
+fn some_wants_a_successor(rt: HostRuntime) -> Result<(), Fail> {
     let i = sample(rt.alloc())?;
-    let some = Concept::HasSome(7, Boxed::new(rt.alloc(), Concept::Top)?);
+    let some = some_top(rt.alloc())?;
     assert!(rt; at_both(&i, &some) == (true, false));
-    let all = Concept::HasAll(7, Boxed::new(rt.alloc(), Concept::Name(5))?);
-    assert!(rt; at_both(&i, &all) == (false, true));
     Ok(())
 }
 
 #[test]
+fn all_holds_without_successors(rt: HostRuntime) -> Result<(), Fail> {
+    let i = sample(rt.alloc())?;
+    let all = all_name(rt.alloc())?;
+    assert!(rt; at_both(&i, &all) == (false, true));
+    Ok(())
+}
+
+fn is_twice_the_sample(i: &Interp) -> bool {
+    i.size == 4
+        && i.names.as_slice() == [(5, 0), (5, 2)].as_slice()
+        && i.roles.as_slice() == [(7, 0, 1), (7, 2, 3)].as_slice()
+}
+
+// Whether the sample appended to itself is as it should be.
+fn appends(alloc: Global, other: &Interp) -> Result<bool, NoMemory> {
+    let mut i = sample(alloc)?;
+    if !is_shaped(&i) || i.size != 2 || !is_shaped(other) || other.size != 2 {
+        return Ok(false);
+    }
+    append(alloc, &mut i, other)?;
+    Ok(is_twice_the_sample(&i))
+}
+
+#[test]
 fn append_moves_elements_up(rt: HostRuntime) -> Result<(), Fail> {
-    let mut i = sample(rt.alloc())?;
     let other = sample(rt.alloc())?;
-    assert!(rt; is_shaped(&i) && i.size == 2);
-    assert!(rt; is_shaped(&other) && other.size == 2);
-    append(rt.alloc(), &mut i, &other)?;
-    assert_eq!(rt; i.size, 4);
-    assert_eq!(rt; i.names.as_slice(), [(5, 0), (5, 2)].as_slice());
-    assert_eq!(rt; i.roles.as_slice(), [(7, 0, 1), (7, 2, 3)].as_slice());
+    assert!(rt; appends(rt.alloc(), &other)?);
     Ok(())
 }

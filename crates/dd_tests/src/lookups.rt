@@ -2,7 +2,7 @@ use dd_concept::{Axiom, Concept, Items, NoMemory};
 use dd_json::Text;
 use dd_peer::{PeerVersion, Rule};
 use dd_text::Symbols;
-use dd_wire::{Form, Names, Request, RuleForm, WireErr, are_peers, resolve};
+use dd_wire::{Form, Names, Request, RuleForm, WireErr, are_peers, read_request, resolve};
 use std::alloc::Global;
 use std::test::Fail;
 
@@ -95,41 +95,72 @@ fn deep(alloc: Global, count: usize) -> Result<Vec<u8>, NoMemory> {
     Ok(text)
 }
 
-// The code of a form in a new session where these peers are declared.
-fn code_at(alloc: Global, names: &Names, form: Form) -> Result<(u8, Option<u64>), NoMemory> {
+// The code of a form in a new session where these peers are declared, if any.
+fn code_of(
+    alloc: Global,
+    names: Option<&Names>,
+    form: Form,
+) -> Result<(u8, Option<u64>), NoMemory> {
     let mut symbols = Symbols::new(alloc)?;
-    Ok(told(resolve(alloc, &mut symbols, Some(names), form)))
+    Ok(told(resolve(alloc, &mut symbols, names, form)))
+}
+
+// The first of these asks that has another code.
+fn first_wrong(
+    alloc: Global,
+    names: &Names,
+    cases: &[(&[u8], &[u8], &[u8], (u8, Option<u64>))],
+) -> Result<Option<usize>, NoMemory> {
+    for (i, (peer, left, right, wanted)) in cases.iter().enumerate() {
+        let form = ask_form(alloc, peer, left, right)?;
+        if code_of(alloc, Some(names), form)? != *wanted {
+            return Ok(Some(i));
+        }
+    }
+    Ok(None)
 }
 
 #[test]
 fn an_ask_is_refused_by_the_first_test(rt: HostRuntime) -> Result<(), Fail> {
-    let alloc = rt.alloc();
-    let long = deep(alloc, 64)?;
+    let names = two_peers(rt.alloc())?;
+    let text = deep(rt.alloc(), 64)?;
+    let long = text.as_slice();
     let cases: [(&[u8], &[u8], &[u8], (u8, Option<u64>)); 7] = [
         (b"There", b"A", b"(some r A)", (0, None)),
         (b"Nowhere", b"A B", b"A", (7, None)),
         (b"Here", b"A B", b"", (3, Some(0))),
         (b"Here", b"A", b"(not top", (3, Some(1))),
-        (b"Here", &long, b"not", (3, Some(1))),
-        (b"Here", &long, &long, (11, Some(0))),
-        (b"Here", b"A", &long, (11, Some(1))),
+        (b"Here", long, b"not", (3, Some(1))),
+        (b"Here", long, long, (11, Some(0))),
+        (b"Here", b"A", long, (11, Some(1))),
     ];
-    let names = two_peers(alloc)?;
-    for (peer, left, right, wanted) in cases {
-        let form = ask_form(alloc, peer, left, right)?;
-        assert!(rt; code_at(alloc, &names, form)? == wanted);
-    }
+    assert_eq!(rt; first_wrong(rt.alloc(), &names, &cases)?, None);
     Ok(())
 }
 
-fn code_of_peers(alloc: Global, names: Items<Text>) -> Result<u8, NoMemory> {
-    let mut symbols = Symbols::new(alloc)?;
-    Ok(told(resolve(alloc, &mut symbols, None, Form::Peers(names))).0)
+fn code_of_peers(
+    alloc: Global,
+    names: Option<&Names>,
+    wanted: Items<Text>,
+) -> Result<(u8, Option<u64>), NoMemory> {
+    code_of(alloc, names, Form::Peers(wanted))
 }
 
-// The code of a declaration of so many peers with different names.
-fn code_of_so_many(alloc: Global, count: u8) -> Result<u8, NoMemory> {
-    code_of_peers(alloc, numbered(alloc, count)?)
+// The first of these declarations that has another code.
+fn first_wrong_peers(alloc: Global, cases: &[(&[&[u8]], u8)]) -> Result<Option<usize>, NoMemory> {
+    for (i, (names, wanted)) in cases.iter().enumerate() {
+        if code_of_peers(alloc, None, texts(alloc, names)?)? != (*wanted, None) {
+            return Ok(Some(i));
+        }
+    }
+    Ok(None)
+}
+
+// Whether at most so many peers can be declared.
+fn is_most(alloc: Global, count: u8) -> Result<bool, NoMemory> {
+    let most = code_of_peers(alloc, None, numbered(alloc, count)?)?;
+    let more = code_of_peers(alloc, None, numbered(alloc, count.saturating_add(1))?)?;
+    Ok(most == (0, None) && more == (6, None))
 }
 
 #[test]
@@ -140,34 +171,22 @@ fn peers_are_1_to_64_different_names(rt: HostRuntime) -> Result<(), Fail> {
         (&[b"A", b"B", b"A"], 6),
         (&[b"A", b"top"], 6),
     ];
-    for (names, wanted) in cases {
-        let names = texts(rt.alloc(), names)?;
-        assert!(rt; code_of_peers(rt.alloc(), names)? == wanted);
-    }
-    assert!(rt; code_of_so_many(rt.alloc(), 64)? == 0);
-    assert!(rt; code_of_so_many(rt.alloc(), 65)? == 6);
+    assert_eq!(rt; first_wrong_peers(rt.alloc(), &cases)?, None);
+    assert!(rt; is_most(rt.alloc(), 64)?);
     Ok(())
 }
 
+// Whether peers are declared once, and before all that needs them.
+fn wants_peers_once(alloc: Global, names: &Names) -> Result<bool, NoMemory> {
+    let again = code_of_peers(alloc, Some(names), numbered(alloc, 2)?)?;
+    let first = code_of(alloc, None, Form::Versions)?;
+    Ok(again == (5, None) && first == (4, None))
+}
+
 #[test]
-fn peers_are_declared_once(rt: HostRuntime) -> Result<(), Fail> {
+fn peers_are_declared_once_and_first(rt: HostRuntime) -> Result<(), Fail> {
     let names = two_peers(rt.alloc())?;
-    let form = Form::Peers(numbered(rt.alloc(), 2)?);
-    assert!(rt; code_at(rt.alloc(), &names, form)? == (5, None));
-    Ok(())
-}
-
-// The code of a form in a new session where no peer is declared.
-fn code_without_peers(alloc: Global, form: Form) -> Result<(u8, Option<u64>), NoMemory> {
-    let mut symbols = Symbols::new(alloc)?;
-    Ok(told(resolve(alloc, &mut symbols, None, form)))
-}
-
-#[test]
-fn what_needs_peers_is_refused_without_them(rt: HostRuntime) -> Result<(), Fail> {
-    let form = ask_form(rt.alloc(), b"Here", b"A B", b"A")?;
-    assert!(rt; code_without_peers(rt.alloc(), form)? == (4, None));
-    assert!(rt; code_without_peers(rt.alloc(), Form::Versions)? == (4, None));
+    assert!(rt; wants_peers_once(rt.alloc(), &names)?);
     Ok(())
 }
 
@@ -212,21 +231,21 @@ fn that_put(alloc: Global) -> Result<Form, NoMemory> {
     put_form(alloc, axioms, into, onto)
 }
 
-// Whether that put is read where two peers are declared.
-fn reads_that_put(alloc: Global, symbols: &mut Symbols) -> Result<bool, NoMemory> {
-    let names = two_peers(alloc)?;
-    let form = that_put(alloc)?;
-    let answer = resolve(alloc, symbols, Some(&names), form);
-    Ok(is_that_put(&answer))
+fn has_counts(symbols: &Symbols, names: u32, roles: u32) -> bool {
+    symbols.name_count() == names && symbols.role_count() == roles
 }
 
-#[test]
-fn a_put_numbers_its_symbols_in_order(rt: HostRuntime) -> Result<(), Fail> {
-    let mut symbols = Symbols::new(rt.alloc())?;
-    assert!(rt; reads_that_put(rt.alloc(), &mut symbols)?);
-    assert!(rt; symbols.name_count() == 4 && symbols.role_count() == 1);
-    assert!(rt; symbols.name_number(b"D") == 3);
-    Ok(())
+// Whether that put is read, and its symbols are numbered in the order of its texts.
+fn reads_that_put(alloc: Global, names: &Names) -> Result<bool, NoMemory> {
+    let mut symbols = Symbols::new(alloc)?;
+    let form = that_put(alloc)?;
+    let is_read = gives_that_put(alloc, names, &mut symbols, form);
+    Ok(is_read && has_counts(&symbols, 4, 1))
+}
+
+fn gives_that_put(alloc: Global, names: &Names, symbols: &mut Symbols, form: Form) -> bool {
+    let answer = resolve(alloc, symbols, Some(names), form);
+    is_that_put(&answer)
 }
 
 // The third of its texts is cut, and the two before it have new symbols.
@@ -236,17 +255,32 @@ fn cut_put(alloc: Global) -> Result<Form, NoMemory> {
     put_form(alloc, axioms, into, Items::new(alloc))
 }
 
-fn code_of_cut_put(alloc: Global, symbols: &mut Symbols) -> Result<(u8, Option<u64>), NoMemory> {
-    let names = two_peers(alloc)?;
+// Whether that one is refused, and leaves no symbols.
+fn refuses_cut_put(alloc: Global, names: &Names) -> Result<bool, NoMemory> {
+    let mut symbols = Symbols::new(alloc)?;
     let form = cut_put(alloc)?;
-    Ok(told(resolve(alloc, symbols, Some(&names), form)))
+    let code = told(resolve(alloc, &mut symbols, Some(names), form));
+    Ok(code == (3, Some(2)) && has_counts(&symbols, 0, 0))
 }
 
 #[test]
-fn a_refused_put_leaves_the_symbols(rt: HostRuntime) -> Result<(), Fail> {
-    let mut symbols = Symbols::new(rt.alloc())?;
-    symbols.add_name(rt.alloc(), b"Old")?;
-    assert!(rt; code_of_cut_put(rt.alloc(), &mut symbols)? == (3, Some(2)));
-    assert!(rt; symbols.name_count() == 1 && symbols.role_count() == 0);
+fn a_put_numbers_its_symbols_or_leaves_them(rt: HostRuntime) -> Result<(), Fail> {
+    let names = two_peers(rt.alloc())?;
+    assert!(rt; reads_that_put(rt.alloc(), &names)?);
+    assert!(rt; refuses_cut_put(rt.alloc(), &names)?);
+    Ok(())
+}
+
+// Whether a line declares peers in a new session.
+fn declares(alloc: Global, line: &[u8]) -> Result<bool, NoMemory> {
+    let mut symbols = Symbols::new(alloc)?;
+    let (code, _) = told(read_request(alloc, &mut symbols, None, line));
+    Ok(code == 0)
+}
+
+#[test]
+fn a_line_is_read_to_its_request(rt: HostRuntime) -> Result<(), Fail> {
+    assert!(rt; declares(rt.alloc(), br#"{"op":"peers","names":["a"]}"#)?);
+    assert!(rt; !declares(rt.alloc(), br#"{"op":"peers","names":["top"]}"#)?);
     Ok(())
 }

@@ -124,28 +124,6 @@ fn a_fault_has_its_name_and_its_place(rt: HostRuntime) -> Result<(), Fail> {
 }
 
 #[test]
-fn what_cannot_be_read_is_named(rt: HostRuntime) -> Result<(), Fail> {
-    for (what, expected) in [
-        (
-            Unread::Field("format"),
-            r#"{"check":"unreadable","field":"format","id":2}"#,
-        ),
-        (
-            Unread::Place {
-                place: 7,
-                value: 4294967296,
-            },
-            r#"{"check":"unreadable","id":2,"place":7,"value":4294967296}"#,
-        ),
-        (Unread::Text(3), r#"{"check":"unreadable","id":2,"text":3}"#),
-    ] {
-        let reply = Reply::Unreadable { id: 2, what };
-        assert!(rt; prints(rt.alloc(), &reply, expected)?);
-    }
-    Ok(())
-}
-
-#[test]
 fn each_code_has_its_name(rt: HostRuntime) -> Result<(), Fail> {
     for (code, expected) in [
         (

@@ -47,7 +47,7 @@ fn answers(alloc: Global, input: &[u8], piece: usize) -> Result<Vec<u8>, Fail>
     requires { 1 ≤ piece }
 {
     let mut source = MemSource::new(input.to_vec(alloc)?, piece, Vec::new(alloc));
-    let mut sink = MemSink::new(alloc, 4096, 4096, Vec::new(alloc))?;
+    let mut sink = MemSink::new(alloc, 65_536, 4096, Vec::new(alloc))?;
     told(alloc, &["alone"], &mut source, &mut sink)
 }
 
@@ -77,46 +77,64 @@ fn gives(alloc: Global, input: &[&str], want: &[&str]) -> Result<bool, Fail> {
     Ok(got.as_slice() == want.as_slice())
 }
 
-/// What stands in a text for a part that each row has of its own.
-const HOLE: &str = "";
-
-/// The text with the row's parts in its holes, in their order.
-fn filled(alloc: Global, text: &[&str], row: &[&str]) -> Result<Vec<u8>, Fail> {
-    let mut whole = Vec::new(alloc);
-    let mut parts = row.iter();
-    for part in text {
-        let part = if *part == HOLE {
-            parts.next().unwrap_or(part)
-        } else {
-            part
-        };
-        whole.extend_from_slice(part.as_bytes())?;
+/// The number of the first line of a session that has another reply than the one beside it, in which `@` stands for the
+/// line's number.
+fn first_wrong(alloc: Global, session: &[(&str, &str)]) -> Result<Option<usize>, Fail> {
+    let input = lines_of(alloc, session)?;
+    let want = replies_of(alloc, session)?;
+    let got = answers(alloc, input.as_slice(), 4096)?;
+    if got.as_slice() == want.as_slice() {
+        return Ok(None);
     }
-    Ok(whole)
+    Ok(Some(line_of_difference(got.as_slice(), want.as_slice())))
 }
 
-/// The first row whose input, in the holes of `input`, is not given its answers, in those of `told`.
-fn first_wrong(
-    alloc: Global,
-    input: &[&str],
-    told: &[&str],
-    rows: &[(&[&str], &[&str])],
-) -> Result<Option<usize>, Fail> {
-    for (i, (given, wanted)) in rows.iter().enumerate() {
-        let input = filled(alloc, input, given)?;
-        let wanted = filled(alloc, told, wanted)?;
-        let got = answers(alloc, input.as_slice(), 4096)?;
-        if got.as_slice() != wanted.as_slice() {
-            return Ok(Some(i));
+fn lines_of(alloc: Global, session: &[(&str, &str)]) -> Result<Vec<u8>, Fail> {
+    let mut lines = Vec::new(alloc);
+    for (line, _) in session {
+        lines.extend_from_slice(line.as_bytes())?;
+        lines.push(b'\n')?;
+    }
+    Ok(lines)
+}
+
+fn replies_of(alloc: Global, session: &[(&str, &str)]) -> Result<Vec<u8>, Fail> {
+    let mut replies = Vec::new(alloc);
+    for (i, (_, reply)) in session.iter().enumerate() {
+        add_reply(alloc, &mut replies, reply, i + 1)?;
+    }
+    replies.push(b'0')?;
+    Ok(replies)
+}
+
+fn add_reply(alloc: Global, replies: &mut Vec<u8>, reply: &str, number: usize) -> Result<(), Fail> {
+    let digits = format!(in alloc; "{number}")?;
+    for byte in reply.as_bytes() {
+        if *byte == b'@' {
+            replies.extend_from_slice(digits.as_bytes())?;
+        } else {
+            replies.push(*byte)?;
         }
     }
-    Ok(None)
+    replies.push(b'\n')?;
+    Ok(())
 }
 
-/// A check of two concepts, up to the left one, and a check of A under C, up to its pin.
-const CHECK_LEFT: &str = r#"{"op":"check","peer":"a","left":""#;
+fn line_of_difference(got: &[u8], want: &[u8]) -> usize {
+    let mut line: usize = 1;
+    for (byte, other) in got.iter().zip(want.iter()) {
+        if byte != other {
+            return line;
+        }
+        if *byte == b'\n' {
+            line = line.saturating_add(1);
+        }
+    }
+    line
+}
 
-const CHECK: &str = r#"{"op":"check","peer":"a","left":"A","right":"C","pin":"#;
+/// A check of two concepts, up to the left one.
+const CHECK_LEFT: &str = r#"{"op":"check","peer":"a","left":""#;
 
 #[test]
 fn each_line_with_a_byte_is_a_request(rt: HostRuntime) -> Result<(), Fail> {
@@ -141,87 +159,233 @@ fn each_line_with_a_byte_is_a_request(rt: HostRuntime) -> Result<(), Fail> {
     Ok(())
 }
 
+/// Whether the first `size` bytes of a session, in reads of at most `piece` bytes, are given these texts.
+fn front_gives(alloc: Global, piece: usize, size: usize, want: &[&str]) -> Result<bool, Fail>
+    requires { 1 ≤ piece }
+{
+    let input = joined(alloc, &[PEERS, PUT, ASK])?;
+    let Some(front) = input.get(..size) else {
+        return Ok(false);
+    };
+    let want = joined(alloc, want)?;
+    let got = answers(alloc, front, piece)?;
+    Ok(got.as_slice() == want.as_slice())
+}
+
 #[test]
 fn the_front_of_an_input_is_answered(rt: HostRuntime) -> Result<(), Fail> {
-    let input = format!(in rt.alloc(); "{}{}{}", PEERS, PUT, ASK)?;
     for (size, given, last) in [
-        (0, 0, ""),
-        (27, 0, "{\"code\":1,\"error\":\"bad_json\",\"id\":1}\n"),
-        (28, 19, ""),
-        (94, 19, "{\"code\":1,\"error\":\"bad_json\",\"id\":2}\n"),
-        (95, 50, ""),
-        (143, 85, ""),
+        (0, "", "0"),
+        (27, "", "{\"code\":1,\"error\":\"bad_json\",\"id\":1}\n0"),
+        (28, &REPLIES[..19], "0"),
+        (
+            94,
+            &REPLIES[..19],
+            "{\"code\":1,\"error\":\"bad_json\",\"id\":2}\n0",
+        ),
+        (95, &REPLIES[..50], "0"),
+        (143, &REPLIES[..85], "0"),
     ] {
-        let want = format!(in rt.alloc(); "{}{last}0", &REPLIES[..given])?;
-        for piece in [1, 4096] {
-            let got = answers(rt.alloc(), &input.as_bytes()[..size], piece)?;
-            assert_eq!(rt; got.as_slice(), want.as_bytes());
-        }
+        assert!(rt; front_gives(rt.alloc(), 1, size, &[given, last])?);
+        assert!(rt; front_gives(rt.alloc(), 4096, size, &[given, last])?);
     }
     Ok(())
 }
 
+const SESSIONS: &[&[(&str, &str)]] = &[
+    // An ask before the put knows no axiom.
+    &[
+        (r#"{"op":"peers","names":["a"]}"#, r#"{"id":@,"peers":1}"#),
+        (
+            r#"{"op":"ask","peer":"a","left":"A","right":"A"}"#,
+            r#"{"id":@,"pin":[0],"verdict":"yes"}"#,
+        ),
+        (
+            r#"{"op":"ask","peer":"a","left":"A","right":"B"}"#,
+            r#"{"id":@,"pin":[0],"verdict":"no"}"#,
+        ),
+    ],
+    // A name is under those that the axioms lead to.
+    &[
+        (r#"{"op":"peers","names":["a"]}"#, r#"{"id":@,"peers":1}"#),
+        (
+            r#"{"op":"put","peer":"a","axioms":["(implies A B)","(implies B C)"]}"#,
+            r#"{"id":@,"put":"a","version":1}"#,
+        ),
+        (
+            r#"{"op":"ask","peer":"a","left":"A","right":"C"}"#,
+            r#"{"id":@,"pin":[1],"verdict":"yes"}"#,
+        ),
+        (
+            r#"{"op":"ask","peer":"a","left":"A","right":"A"}"#,
+            r#"{"id":@,"pin":[1],"verdict":"yes"}"#,
+        ),
+        (
+            r#"{"op":"ask","peer":"a","left":"A","right":"D"}"#,
+            r#"{"id":@,"pin":[1],"verdict":"no"}"#,
+        ),
+        (
+            r#"{"op":"ask","peer":"a","left":"D","right":"D"}"#,
+            r#"{"id":@,"pin":[1],"verdict":"yes"}"#,
+        ),
+        (
+            r#"{"op":"ask","peer":"a","left":"C","right":"A"}"#,
+            r#"{"id":@,"pin":[1],"verdict":"no"}"#,
+        ),
+    ],
+    &[
+        (r#"{"op":"peers","names":["a"]}"#, r#"{"id":@,"peers":1}"#),
+        (
+            r#"{"op":"put","peer":"a","axioms":["(implies A B)","(implies B C)","(implies C A)"]}"#,
+            r#"{"id":@,"put":"a","version":1}"#,
+        ),
+        (
+            r#"{"op":"ask","peer":"a","left":"C","right":"B"}"#,
+            r#"{"id":@,"pin":[1],"verdict":"yes"}"#,
+        ),
+        (
+            r#"{"op":"ask","peer":"a","left":"A","right":"D"}"#,
+            r#"{"id":@,"pin":[1],"verdict":"no"}"#,
+        ),
+    ],
+    &[
+        (r#"{"op":"peers","names":["a"]}"#, r#"{"id":@,"peers":1}"#),
+        (
+            r#"{"op":"put","peer":"a","axioms":[]}"#,
+            r#"{"id":@,"put":"a","version":1}"#,
+        ),
+        (
+            r#"{"op":"ask","peer":"a","left":"A","right":"B"}"#,
+            r#"{"id":@,"pin":[1],"verdict":"no"}"#,
+        ),
+    ],
+    // Other axioms are put and not asked about.
+    &[
+        (r#"{"op":"peers","names":["a"]}"#, r#"{"id":@,"peers":1}"#),
+        (
+            r#"{"op":"put","peer":"a","axioms":["(implies A B)","(implies A (not C))"]}"#,
+            r#"{"id":@,"put":"a","version":1}"#,
+        ),
+        (
+            r#"{"op":"ask","peer":"a","left":"A","right":"B"}"#,
+            r#"{"code":17,"error":"not_built","id":@}"#,
+        ),
+    ],
+    &[
+        (r#"{"op":"peers","names":["a"]}"#, r#"{"id":@,"peers":1}"#),
+        (
+            r#"{"op":"put","peer":"a","axioms":["(implies A B)","(implies top A)"]}"#,
+            r#"{"id":@,"put":"a","version":1}"#,
+        ),
+        (
+            r#"{"op":"ask","peer":"a","left":"A","right":"B"}"#,
+            r#"{"code":17,"error":"not_built","id":@}"#,
+        ),
+    ],
+    &[
+        (r#"{"op":"peers","names":["a"]}"#, r#"{"id":@,"peers":1}"#),
+        (
+            r#"{"op":"put","peer":"a","axioms":["(implies A B)","(implies A bottom)"]}"#,
+            r#"{"id":@,"put":"a","version":1}"#,
+        ),
+        (
+            r#"{"op":"ask","peer":"a","left":"A","right":"B"}"#,
+            r#"{"code":17,"error":"not_built","id":@}"#,
+        ),
+    ],
+    &[
+        (r#"{"op":"peers","names":["a"]}"#, r#"{"id":@,"peers":1}"#),
+        (
+            r#"{"op":"put","peer":"a","axioms":["(implies A B)","(implies (and A B) C)"]}"#,
+            r#"{"id":@,"put":"a","version":1}"#,
+        ),
+        (
+            r#"{"op":"ask","peer":"a","left":"A","right":"B"}"#,
+            r#"{"code":17,"error":"not_built","id":@}"#,
+        ),
+    ],
+    &[
+        (r#"{"op":"peers","names":["a"]}"#, r#"{"id":@,"peers":1}"#),
+        (
+            r#"{"op":"put","peer":"a","axioms":["(implies A B)","(implies (or A B) C)"]}"#,
+            r#"{"id":@,"put":"a","version":1}"#,
+        ),
+        (
+            r#"{"op":"ask","peer":"a","left":"A","right":"B"}"#,
+            r#"{"code":17,"error":"not_built","id":@}"#,
+        ),
+    ],
+    &[
+        (r#"{"op":"peers","names":["a"]}"#, r#"{"id":@,"peers":1}"#),
+        (
+            r#"{"op":"put","peer":"a","axioms":["(implies A B)","(implies A (some r C))"]}"#,
+            r#"{"id":@,"put":"a","version":1}"#,
+        ),
+        (
+            r#"{"op":"ask","peer":"a","left":"A","right":"B"}"#,
+            r#"{"code":17,"error":"not_built","id":@}"#,
+        ),
+    ],
+    &[
+        (r#"{"op":"peers","names":["a"]}"#, r#"{"id":@,"peers":1}"#),
+        (
+            r#"{"op":"put","peer":"a","axioms":["(implies A B)","(implies A (all r C))"]}"#,
+            r#"{"id":@,"put":"a","version":1}"#,
+        ),
+        (
+            r#"{"op":"ask","peer":"a","left":"A","right":"B"}"#,
+            r#"{"code":17,"error":"not_built","id":@}"#,
+        ),
+    ],
+    // One peer is declared before all else.
+    &[
+        (
+            r#"{"op":"peers","names":[]}"#,
+            r#"{"code":17,"error":"not_built","id":@}"#,
+        ),
+        (
+            r#"{"op":"peers","names":["a","b"]}"#,
+            r#"{"code":17,"error":"not_built","id":@}"#,
+        ),
+        (
+            r#"{"op":"peers","names":["top"]}"#,
+            r#"{"code":17,"error":"not_built","id":@}"#,
+        ),
+        (
+            r#"{"op":"put","peer":"a"}"#,
+            r#"{"code":17,"error":"not_built","id":@}"#,
+        ),
+        (
+            r#"{"op":"ask","peer":"a","left":"A","right":"A"}"#,
+            r#"{"code":17,"error":"not_built","id":@}"#,
+        ),
+        (r#"{"op":"peers","names":["a"]}"#, r#"{"id":@,"peers":1}"#),
+    ],
+];
+
 #[test]
-fn a_name_is_under_those_that_the_axioms_lead_to(rt: HostRuntime) -> Result<(), Fail> {
-    let input = [
-        PEERS,
-        "{\"op\":\"put\",\"peer\":\"a\",\"axioms\":[",
-        HOLE,
-        "]}\n{\"op\":\"ask\",\"peer\":\"a\",\"left\":\"",
-        HOLE,
-        "\",\"right\":\"",
-        HOLE,
-        "\"}",
-    ];
-    let told = [
-        "{\"id\":1,\"peers\":1}\n{\"id\":2,\"put\":\"a\",\"version\":1}\n{\"id\":3,\"pin\":[1],\"verdict\":\"",
-        HOLE,
-        "\"}\n0",
-    ];
-    let rows: [(&[&str], &[&str]); 8] = [
-        (&[r#""(implies A B)","(implies B C)""#, "A", "C"], &["yes"]),
-        (&[r#""(implies A B)","(implies B C)""#, "A", "A"], &["yes"]),
-        (&[r#""(implies A B)","(implies B C)""#, "A", "D"], &["no"]),
-        (&[r#""(implies A B)","(implies B C)""#, "D", "D"], &["yes"]),
-        (&[r#""(implies A B)","(implies B C)""#, "C", "A"], &["no"]),
-        (
-            &[
-                r#""(implies A B)","(implies B C)","(implies C A)""#,
-                "C",
-                "B",
-            ],
-            &["yes"],
-        ),
-        (
-            &[
-                r#""(implies A B)","(implies B C)","(implies C A)""#,
-                "A",
-                "D",
-            ],
-            &["no"],
-        ),
-        (&["", "A", "B"], &["no"]),
-    ];
-    assert_eq!(rt; first_wrong(rt.alloc(), &input, &told, &rows)?, None);
+fn asks_are_answered_by_the_axioms(rt: HostRuntime) -> Result<(), Fail> {
+    for session in SESSIONS {
+        assert_eq!(rt; first_wrong(rt.alloc(), session)?, None);
+    }
     Ok(())
 }
 
-#[test]
-fn an_ask_before_the_put_knows_no_axiom(rt: HostRuntime) -> Result<(), Fail> {
-    let input = [
-        PEERS,
-        "{\"op\":\"ask\",\"peer\":\"a\",\"left\":\"A\",\"right\":\"",
-        HOLE,
-        "\"}",
-    ];
-    let told = [
-        "{\"id\":1,\"peers\":1}\n{\"id\":2,\"pin\":[0],\"verdict\":\"",
-        HOLE,
-        "\"}\n0",
-    ];
-    let rows: [(&[&str], &[&str]); 2] = [(&["A"], &["yes"]), (&["B"], &["no"])];
-    assert_eq!(rt; first_wrong(rt.alloc(), &input, &told, &rows)?, None);
-    Ok(())
+/// Whether a line after a put is no value, and the next one is answered.
+fn is_no_value(alloc: Global, line: &[u8]) -> Result<bool, Fail> {
+    let mut input = joined(alloc, &[PEERS, PUT])?;
+    input.extend_from_slice(line)?;
+    input.push(b'\n')?;
+    input.extend_from_slice(ASK.as_bytes())?;
+    let want = joined(
+        alloc,
+        &[
+            &REPLIES[..50],
+            "{\"code\":1,\"error\":\"bad_json\",\"id\":3}\n{\"id\":4,\"pin\":[1],\"verdict\":\"yes\"}\n0",
+        ],
+    )?;
+    let got = answers(alloc, input.as_slice(), 4096)?;
+    Ok(got.as_slice() == want.as_slice())
 }
 
 #[test]
@@ -232,35 +396,8 @@ fn a_line_that_is_no_value_changes_nothing(rt: HostRuntime) -> Result<(), Fail> 
         b"\"\xff\"".as_slice(),
         b"{\"op\":\"peers\",\"names\":[\"\xc3\"]}".as_slice(),
     ] {
-        let mut input = format!(in rt.alloc(); "{}{}", PEERS, PUT)?.into_bytes();
-        input.extend_from_slice(line)?;
-        input.push(b'\n')?;
-        input.extend_from_slice(ASK.as_bytes())?;
-        let want = joined(
-            rt.alloc(),
-            &[
-                &REPLIES[..50],
-                "{\"code\":1,\"error\":\"bad_json\",\"id\":3}\n{\"id\":4,\"pin\":[1],\"verdict\":\"yes\"}\n0",
-            ],
-        )?;
-        let got = answers(rt.alloc(), input.as_slice(), 4096)?;
-        assert_eq!(rt; got.as_slice(), want.as_slice());
+        assert!(rt; is_no_value(rt.alloc(), line)?);
     }
-    Ok(())
-}
-
-#[test]
-fn one_peer_is_declared_before_all_else(rt: HostRuntime) -> Result<(), Fail> {
-    let input = [HOLE, "\n", PEERS];
-    let told = ["{\"code\":17,\"error\":\"not_built\",\"id\":1}\n{\"id\":2,\"peers\":1}\n0"];
-    let rows: [(&[&str], &[&str]); 5] = [
-        (&[r#"{"op":"peers","names":[]}"#], &[]),
-        (&[r#"{"op":"peers","names":["a","b"]}"#], &[]),
-        (&[r#"{"op":"peers","names":["top"]}"#], &[]),
-        (&[r#"{"op":"put","peer":"a"}"#], &[]),
-        (&[r#"{"op":"ask","peer":"a","left":"A","right":"A"}"#], &[]),
-    ];
-    assert_eq!(rt; first_wrong(rt.alloc(), &input, &told, &rows)?, None);
     Ok(())
 }
 
@@ -320,14 +457,20 @@ fn a_write_that_fails_ends_the_replies_there(rt: HostRuntime) -> Result<(), Fail
     Ok(())
 }
 
+/// Whether a session with these words leaves the source and the sink as they are, so that one with the right word answers.
+fn are_other_words(alloc: Global, words: &[&str]) -> Result<bool, Fail> {
+    let mut source = MemSource::new(PEERS.as_bytes().to_vec(alloc)?, 4096, Vec::new(alloc));
+    let mut sink = MemSink::new(alloc, 4096, 4096, Vec::new(alloc))?;
+    let first = told(alloc, words, &mut source, &mut sink)?;
+    let second = told(alloc, &["alone"], &mut source, &mut sink)?;
+    Ok(
+        first.as_slice() == b"2".as_slice()
+            && second.as_slice() == b"{\"id\":1,\"peers\":1}\n0".as_slice(),
+    )
+}
+
 #[test]
 fn other_words_read_and_write_nothing(rt: HostRuntime) -> Result<(), Fail> {
-    let mut source = MemSource::new(
-        PEERS.as_bytes().to_vec(rt.alloc())?,
-        4096,
-        Vec::new(rt.alloc()),
-    );
-    let mut sink = MemSink::new(rt.alloc(), 4096, 4096, Vec::new(rt.alloc()))?;
     for words in [
         &[][..],
         &["serve"][..],
@@ -336,14 +479,8 @@ fn other_words_read_and_write_nothing(rt: HostRuntime) -> Result<(), Fail> {
         &["alone "][..],
         &[""][..],
     ] {
-        let got = told(rt.alloc(), words, &mut source, &mut sink)?;
-        assert_eq!(rt; got.as_slice(), &b"2"[..]);
+        assert!(rt; are_other_words(rt.alloc(), words)?);
     }
-    let got = told(rt.alloc(), &["alone"], &mut source, &mut sink)?;
-    assert_eq!(rt; got.as_slice(), &b"{\"id\":1,\"peers\":1}\n0"[..]);
-    assert_eq!(rt;
-        USAGE,
-        &b"usage: drago serve|alone|make|drill [options]\n"[..]
-    );
+    assert!(rt; USAGE == b"usage: drago serve|alone|make|drill [options]\n".as_slice());
     Ok(())
 }

@@ -1,140 +1,126 @@
-use super::{CHECK, HOLE, PEERS, first_wrong, gives};
+use super::{PEERS, first_wrong, gives};
 use std::alloc::Global;
 use std::test::Fail;
 
-const IS_DECLARED: &str = "{\"id\":1,\"peers\":1}\n";
+/// Checks whose certificates cannot be read.
+const UNREAD: &[(&str, &str)] = &[
+    (r#"{"op":"peers","names":["a"]}"#, r#"{"id":@,"peers":1}"#),
+    // A certificate is read after the pin.
+    (
+        r#"{"op":"check","peer":"a","left":"A","right":"C","pin":[0],"cert":{}}"#,
+        r#"{"check":"unreadable","field":"format","id":@}"#,
+    ),
+    (
+        r#"{"op":"check","peer":"a","left":"A","right":"C","pin":[1],"cert":{}}"#,
+        r#"{"code":18,"error":"bad_pin","id":@}"#,
+    ),
+    (
+        r#"{"op":"check","peer":"a","left":"A","right":"C","pin":[],"cert":null}"#,
+        r#"{"code":18,"error":"bad_pin","id":@}"#,
+    ),
+    (
+        r#"{"op":"check","peer":"a","left":"A","right":"C","pin":[0],"cert":{"kind":"yes"}}"#,
+        r#"{"code":17,"error":"not_built","id":@}"#,
+    ),
+    (
+        r#"{"op":"check","peer":"a","left":"A","right":"C","pin":[1],"cert":{"format":1,"kind":"yes","lines":[]}}"#,
+        r#"{"code":17,"error":"not_built","id":@}"#,
+    ),
+    // The member that has another form is told.
+    (
+        r#"{"op":"check","peer":"a","left":"A","right":"C","pin":[0],"cert":7}"#,
+        r#"{"check":"unreadable","field":"format","id":@}"#,
+    ),
+    (
+        r#"{"op":"check","peer":"a","left":"A","right":"C","pin":[0],"cert":"no"}"#,
+        r#"{"check":"unreadable","field":"format","id":@}"#,
+    ),
+    (
+        r#"{"op":"check","peer":"a","left":"A","right":"C","pin":[0],"cert":[]}"#,
+        r#"{"check":"unreadable","field":"format","id":@}"#,
+    ),
+    (
+        r#"{"op":"check","peer":"a","left":"A","right":"C","pin":[0],"cert":{"format":2,"kind":"no","links":[],"locals":[]}}"#,
+        r#"{"check":"unreadable","field":"format","id":@}"#,
+    ),
+    (
+        r#"{"op":"check","peer":"a","left":"A","right":"C","pin":[0],"cert":{"format":"1","kind":"no","links":[],"locals":[]}}"#,
+        r#"{"check":"unreadable","field":"format","id":@}"#,
+    ),
+    (
+        r#"{"op":"check","peer":"a","left":"A","right":"C","pin":[0],"cert":{"format":1}}"#,
+        r#"{"check":"unreadable","field":"kind","id":@}"#,
+    ),
+    (
+        r#"{"op":"check","peer":"a","left":"A","right":"C","pin":[0],"cert":{"format":1,"kind":"maybe","links":[],"locals":[]}}"#,
+        r#"{"check":"unreadable","field":"kind","id":@}"#,
+    ),
+    (
+        r#"{"op":"check","peer":"a","left":"A","right":"C","pin":[0],"cert":{"format":1,"kind":"no","links":[],"locals":[],"x":0}}"#,
+        r#"{"check":"unreadable","field":"kind","id":@}"#,
+    ),
+    (
+        r#"{"op":"check","peer":"a","left":"A","right":"C","pin":[0],"cert":{"format":1,"kind":"no","locals":[]}}"#,
+        r#"{"check":"unreadable","field":"links","id":@}"#,
+    ),
+    (
+        r#"{"op":"check","peer":"a","left":"A","right":"C","pin":[0],"cert":{"format":1,"kind":"no","links":[[0,1,0]],"locals":7}}"#,
+        r#"{"check":"unreadable","field":"links","id":@}"#,
+    ),
+    (
+        r#"{"op":"check","peer":"a","left":"A","right":"C","pin":[0],"cert":{"format":1,"kind":"no","links":[]}}"#,
+        r#"{"check":"unreadable","field":"locals","id":@}"#,
+    ),
+    (
+        r#"{"op":"check","peer":"a","left":"A","right":"C","pin":[0],"cert":{"format":1,"kind":"no","links":[],"locals":[{"names":[],"roles":[]}]}}"#,
+        r#"{"check":"unreadable","field":"locals","id":@}"#,
+    ),
+    (
+        r#"{"op":"check","peer":"a","left":"A","right":"C","pin":[0],"cert":{"format":1,"kind":"no","links":[],"locals":[{"names":[["A",-1]],"roles":[],"size":1}]}}"#,
+        r#"{"check":"unreadable","field":"locals","id":@}"#,
+    ),
+    (
+        r#"{"op":"check","peer":"a","left":"A","right":"C","pin":[0],"cert":{"format":1,"kind":"no","links":[],"locals":[{"names":[["top",0]],"roles":[],"size":18446744073709551616}]}}"#,
+        r#"{"check":"unreadable","field":"locals","id":@}"#,
+    ),
+    (
+        r#"{"op":"check","peer":"a","left":"A","right":"C","pin":[0],"cert":{"format":1.0,"kind":"no","links":[],"locals":[]}}"#,
+        r#"{"check":"unreadable","field":"format","id":@}"#,
+    ),
+    (
+        r#"{"op":"check","peer":"a","left":"A","right":"C","pin":[0],"cert":{"format":1,"kind":"no","links":7,"locals":[],"x":0}}"#,
+        r#"{"check":"unreadable","field":"kind","id":@}"#,
+    ),
+    (
+        r#"{"op":"check","peer":"a","left":"A","right":"C","pin":[0],"cert":{"format":1,"kind":"no","links":[],"locals":[{"names":[["A",0]],"roles":[],"size":-1}]}}"#,
+        r#"{"check":"unreadable","field":"locals","id":@}"#,
+    ),
+    // The first number above the limit is told with its place, and then the first text that is no name.
+    (
+        r#"{"op":"check","peer":"a","left":"A","right":"C","pin":[0],"cert":{"format":1,"kind":"no","links":[[0,1,4294967296,0]],"locals":[{"names":[["top",0]],"roles":[],"size":1}]}}"#,
+        r#"{"check":"unreadable","id":@,"place":2,"value":4294967296}"#,
+    ),
+    (
+        r#"{"op":"check","peer":"a","left":"A","right":"C","pin":[0],"cert":{"format":1,"kind":"no","links":[[0,1,4294967295,0]],"locals":[{"size":9999999999,"roles":[["r",0,1]],"names":[["A",0]]}]}}"#,
+        r#"{"check":"unreadable","id":@,"place":7,"value":9999999999}"#,
+    ),
+    (
+        r#"{"op":"check","peer":"a","left":"A","right":"C","pin":[0],"cert":{"format":1,"kind":"no","links":[],"locals":[{"names":[],"roles":[],"size":1},{"names":[],"roles":[],"size":18446744073709551615}]}}"#,
+        r#"{"check":"unreadable","id":@,"place":1,"value":18446744073709551615}"#,
+    ),
+    (
+        r#"{"op":"check","peer":"a","left":"A","right":"C","pin":[0],"cert":{"format":1,"kind":"no","links":[],"locals":[{"names":[["top",0]],"roles":[],"size":1}]}}"#,
+        r#"{"check":"unreadable","id":@,"text":0}"#,
+    ),
+    (
+        r#"{"op":"check","peer":"a","left":"A","right":"C","pin":[0],"cert":{"format":1,"kind":"no","links":[],"locals":[{"size":1,"roles":[["r",0,0],["1",0,0]],"names":[["A",0]]}]}}"#,
+        r#"{"check":"unreadable","id":@,"text":2}"#,
+    ),
+];
 
 #[test]
-fn a_certificate_is_read_after_the_pin(rt: HostRuntime) -> Result<(), Fail> {
-    let input = [PEERS, CHECK, HOLE, ",\"cert\":", HOLE, "}"];
-    let told = [IS_DECLARED, HOLE, "\n0"];
-    let rows: [(&[&str], &[&str]); 5] = [
-        (
-            &["[0]", "{}"],
-            &[r#"{"check":"unreadable","field":"format","id":2}"#],
-        ),
-        (&["[1]", "{}"], &[r#"{"code":18,"error":"bad_pin","id":2}"#]),
-        (
-            &["[]", "null"],
-            &[r#"{"code":18,"error":"bad_pin","id":2}"#],
-        ),
-        (
-            &["[0]", r#"{"kind":"yes"}"#],
-            &[r#"{"code":17,"error":"not_built","id":2}"#],
-        ),
-        (
-            &["[1]", r#"{"format":1,"kind":"yes","lines":[]}"#],
-            &[r#"{"code":17,"error":"not_built","id":2}"#],
-        ),
-    ];
-    assert_eq!(rt; first_wrong(rt.alloc(), &input, &told, &rows)?, None);
-    Ok(())
-}
-
-#[test]
-fn the_member_of_another_form_is_told(rt: HostRuntime) -> Result<(), Fail> {
-    let input = [PEERS, CHECK, "[0],\"cert\":", HOLE, "}"];
-    let told = [
-        IS_DECLARED,
-        "{\"check\":\"unreadable\",\"field\":\"",
-        HOLE,
-        "\",\"id\":2}\n0",
-    ];
-    let rows: [(&[&str], &[&str]); 14] = [
-        (&["7"], &["format"]),
-        (&[r#""no""#], &["format"]),
-        (&["[]"], &["format"]),
-        (
-            &[r#"{"format":2,"kind":"no","links":[],"locals":[]}"#],
-            &["format"],
-        ),
-        (
-            &[r#"{"format":"1","kind":"no","links":[],"locals":[]}"#],
-            &["format"],
-        ),
-        (&[r#"{"format":1}"#], &["kind"]),
-        (
-            &[r#"{"format":1,"kind":"maybe","links":[],"locals":[]}"#],
-            &["kind"],
-        ),
-        (
-            &[r#"{"format":1,"kind":"no","links":[],"locals":[],"x":0}"#],
-            &["kind"],
-        ),
-        (&[r#"{"format":1,"kind":"no","locals":[]}"#], &["links"]),
-        (
-            &[r#"{"format":1,"kind":"no","links":[[0,1,0]],"locals":7}"#],
-            &["links"],
-        ),
-        (&[r#"{"format":1,"kind":"no","links":[]}"#], &["locals"]),
-        (
-            &[r#"{"format":1,"kind":"no","links":[],"locals":[{"names":[],"roles":[]}]}"#],
-            &["locals"],
-        ),
-        (
-            &[
-                r#"{"format":1,"kind":"no","links":[],"locals":[{"names":[["A",-1]],"roles":[],"size":1}]}"#,
-            ],
-            &["locals"],
-        ),
-        (
-            &[
-                r#"{"format":1,"kind":"no","links":[],"locals":[{"names":[["top",0]],"roles":[],"size":18446744073709551616}]}"#,
-            ],
-            &["locals"],
-        ),
-    ];
-    assert_eq!(rt; first_wrong(rt.alloc(), &input, &told, &rows)?, None);
-    Ok(())
-}
-
-#[test]
-fn the_first_number_or_text_is_told(rt: HostRuntime) -> Result<(), Fail> {
-    let input = [
-        PEERS,
-        CHECK,
-        "[0],\"cert\":{\"format\":1,\"kind\":\"no\",\"links\":",
-        HOLE,
-        ",\"locals\":",
-        HOLE,
-        "}}",
-    ];
-    let told = [IS_DECLARED, "{\"check\":\"unreadable\",", HOLE, "}\n0"];
-    let rows: [(&[&str], &[&str]); 5] = [
-        (
-            &[
-                "[[0,1,4294967296,0]]",
-                r#"[{"names":[["top",0]],"roles":[],"size":1}]"#,
-            ],
-            &[r#""id":2,"place":2,"value":4294967296"#],
-        ),
-        (
-            &[
-                "[[0,1,4294967295,0]]",
-                r#"[{"size":9999999999,"roles":[["r",0,1]],"names":[["A",0]]}]"#,
-            ],
-            &[r#""id":2,"place":7,"value":9999999999"#],
-        ),
-        (
-            &[
-                "[]",
-                r#"[{"names":[],"roles":[],"size":1},{"names":[],"roles":[],"size":18446744073709551615}]"#,
-            ],
-            &[r#""id":2,"place":1,"value":18446744073709551615"#],
-        ),
-        (
-            &["[]", r#"[{"names":[["top",0]],"roles":[],"size":1}]"#],
-            &[r#""id":2,"text":0"#],
-        ),
-        (
-            &[
-                "[]",
-                r#"[{"size":1,"roles":[["r",0,0],["1",0,0]],"names":[["A",0]]}]"#,
-            ],
-            &[r#""id":2,"text":2"#],
-        ),
-    ];
-    assert_eq!(rt; first_wrong(rt.alloc(), &input, &told, &rows)?, None);
+fn a_certificate_that_cannot_be_read_is_told(rt: HostRuntime) -> Result<(), Fail> {
+    assert_eq!(rt; first_wrong(rt.alloc(), UNREAD)?, None);
     Ok(())
 }
 

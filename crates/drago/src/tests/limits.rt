@@ -1,4 +1,4 @@
-use super::{ASK, CHECK_LEFT, HOLE, PEERS, PUT, first_wrong, gives};
+use super::{ASK, CHECK_LEFT, PEERS, PUT, gives};
 use std::alloc::Global;
 use std::test::Fail;
 
@@ -83,51 +83,6 @@ fn a_name_has_at_most_64_bytes(rt: HostRuntime) -> Result<(), Fail> {
             )?
         );
     }
-    Ok(())
-}
-
-#[test]
-fn a_text_is_in_the_grammar_to_the_byte(rt: HostRuntime) -> Result<(), Fail> {
-    let input = [
-        PEERS,
-        "{\"op\":\"put\",\"peer\":\"a\",\"axioms\":[\"(implies top (some r (all r bottom)))\",\"",
-        HOLE,
-        "\",\"(\"]}",
-    ];
-    let told = [
-        "{\"id\":1,\"peers\":1}\n{\"code\":3,\"error\":\"bad_concept\",\"id\":2,\"n\":1}\n0",
-    ];
-    let rows: [(&[&str], &[&str]); 28] = [
-        (&[""], &[]),
-        (&["A"], &[]),
-        (&["implies A B"], &[]),
-        (&["(implies A)"], &[]),
-        (&["(implies A B"], &[]),
-        (&["(implies A B C)"], &[]),
-        (&["(implies A B))"], &[]),
-        (&["(implies A B) "], &[]),
-        (&[" (implies A B)"], &[]),
-        (&["( implies A B)"], &[]),
-        (&["(implies A  B)"], &[]),
-        (&["(implies A\\tB)"], &[]),
-        (&["(implies A\\nB)"], &[]),
-        (&["(subrole A B)"], &[]),
-        (&["(Implies A B)"], &[]),
-        (&["(implies A implies)"], &[]),
-        (&["(implies subrole B)"], &[]),
-        (&["(implies not B)"], &[]),
-        (&["(implies (not) B)"], &[]),
-        (&["(implies (not A B) C)"], &[]),
-        (&["(implies (and A) B)"], &[]),
-        (&["(implies (or A B C) D)"], &[]),
-        (&["(implies (some r) B)"], &[]),
-        (&["(implies (some (not r) A) B)"], &[]),
-        (&["(implies (all top A) B)"], &[]),
-        (&["(implies 1A B)"], &[]),
-        (&["(implies A? B)"], &[]),
-        (&["(implies é B)"], &[]),
-    ];
-    assert_eq!(rt; first_wrong(rt.alloc(), &input, &told, &rows)?, None);
     Ok(())
 }
 
