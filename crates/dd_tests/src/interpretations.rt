@@ -1,6 +1,5 @@
-use dd_concept::{Concept, Items, NoMemory};
-use dd_interp::{Interp, append, holds, is_shaped};
-use sqlite_items::Boxed;
+use dd_concept::{Items, NoMemory};
+use dd_interp::{Interp, append, is_shaped};
 use std::alloc::Global;
 use std::test::Fail;
 
@@ -11,35 +10,6 @@ fn sample(alloc: Global) -> Result<Interp, NoMemory> {
         names: Items::from_slice(alloc, &[(5, 0)])?,
         roles: Items::from_slice(alloc, &[(7, 0, 1)])?,
     })
-}
-
-// Whether a concept holds at the first element and at the second one.
-fn at_both(i: &Interp, c: &Concept) -> (bool, bool) {
-    (holds(i, 0, c), holds(i, 1, c))
-}
-
-fn some_top(alloc: Global) -> Result<Concept, NoMemory> {
-    Ok(Concept::HasSome(7, Boxed::new(alloc, Concept::Top)?))
-}
-
-fn all_name(alloc: Global) -> Result<Concept, NoMemory> {
-    Ok(Concept::HasAll(7, Boxed::new(alloc, Concept::Name(5))?))
-}
-
-#[test]
-fn some_wants_a_successor(rt: HostRuntime) -> Result<(), Fail> {
-    let i = sample(rt.alloc())?;
-    let some = some_top(rt.alloc())?;
-    assert!(rt; at_both(&i, &some) == (true, false));
-    Ok(())
-}
-
-#[test]
-fn all_holds_without_successors(rt: HostRuntime) -> Result<(), Fail> {
-    let i = sample(rt.alloc())?;
-    let all = all_name(rt.alloc())?;
-    assert!(rt; at_both(&i, &all) == (false, true));
-    Ok(())
 }
 
 fn is_twice_the_sample(i: &Interp) -> bool {

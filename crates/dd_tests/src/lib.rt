@@ -1,15 +1,12 @@
 //! Tests of the libraries, by their public calls. They stand in a crate of their own, since a crate with tests is proved twice.
 //!
-//! There is a module for each part of them: `concepts`, `interpretations`, `peers` and `worlds`; `lines`; `members` of JSON
-//! objects; `symbols` and `texts`; `certificates`; and `forms`, `lookups` and `replies` of the protocol. The program's tests stand in its own crate.
+//! They are of what the sessions of the program's own tests do not show: `concepts`, `interpretations`, `peers` and `worlds` of
+//! several peers; `lines` however they are read; `members` of JSON objects; `symbols` and `texts` both ways; and `lookups` and `replies` of
+//! the protocol, with the codes that the program does not answer yet.
 #![tactic(auto)]
 
 #[cfg(test)]
-mod certificates;
-#[cfg(test)]
 mod concepts;
-#[cfg(test)]
-mod forms;
 #[cfg(test)]
 mod interpretations;
 #[cfg(test)]

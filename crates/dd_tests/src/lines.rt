@@ -1,6 +1,5 @@
 use dd_lines::{
-    LineReader, LineStep, MemSink, MemSource, ReadErr, Sink, Source, StdSink, StdSource,
-    write_whole,
+    LineReader, LineStep, MemSource, ReadErr, Sink, Source, StdSink, StdSource, write_whole,
 };
 use std::alloc::Global;
 use std::test::Fail;
@@ -45,31 +44,6 @@ fn lines_are_cut_however_they_are_read(rt: HostRuntime) -> Result<(), Fail> {
             assert_eq!(rt; signs.as_slice(), want);
         }
     }
-    Ok(())
-}
-
-#[test]
-fn a_fault_is_answered_from_then_on(rt: HostRuntime) -> Result<(), Fail> {
-    let bytes = b"a\nb\n".to_vec(rt.alloc())?;
-    let mut source = MemSource::new(bytes, 2, [1].to_vec(rt.alloc())?);
-    let signs = answers(rt.alloc(), &mut source, 8)?;
-    assert_eq!(rt; signs.as_slice(), &b"a|!11"[..]);
-    assert_eq!(rt; source.faults(), 1);
-    Ok(())
-}
-
-#[test]
-fn a_piece_is_given_whole_or_its_front_is(rt: HostRuntime) -> Result<(), Fail> {
-    let mut sink = MemSink::new(rt.alloc(), 8, 3, Vec::new(rt.alloc()))?;
-    assert!(rt; write_whole(&mut sink, b"abcdefgh").is_ok());
-    assert_eq!(rt; sink.bytes(), &b"abcdefgh"[..]);
-    assert!(rt; write_whole(&mut sink, b"i").is_err());
-    assert_eq!(rt; sink.bytes(), &b"abcdefgh"[..]);
-
-    let mut broken = MemSink::new(rt.alloc(), 8, 3, [1].to_vec(rt.alloc())?)?;
-    assert!(rt; write_whole(&mut broken, b"abcdefgh").is_err());
-    assert_eq!(rt; broken.bytes(), &b"abc"[..]);
-    assert_eq!(rt; broken.faults(), 1);
     Ok(())
 }
 

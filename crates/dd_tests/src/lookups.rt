@@ -79,22 +79,6 @@ fn told(answer: Result<Request, WireErr>) -> (u8, Option<u64>) {
     }
 }
 
-fn add_often(text: &mut Vec<u8>, piece: &[u8], count: usize) -> Result<(), NoMemory> {
-    for _ in 0..count {
-        text.extend_from_slice(piece)?;
-    }
-    Ok(())
-}
-
-// A name with so many `not` before it.
-fn deep(alloc: Global, count: usize) -> Result<Vec<u8>, NoMemory> {
-    let mut text = Vec::new(alloc);
-    add_often(&mut text, b"(not ", count)?;
-    text.push(b'A')?;
-    add_often(&mut text, b")", count)?;
-    Ok(text)
-}
-
 // The code of a form in a new session where these peers are declared, if any.
 fn code_of(
     alloc: Global,
@@ -123,18 +107,13 @@ fn first_wrong(
 #[test]
 fn an_ask_is_refused_by_the_first_test(rt: HostRuntime) -> Result<(), Fail> {
     let names = two_peers(rt.alloc())?;
-    let text = deep(rt.alloc(), 64)?;
-    let long = text.as_slice();
-    let cases: [(&[u8], &[u8], &[u8], (u8, Option<u64>)); 7] = [
+    let cases: [(&[u8], &[u8], &[u8], (u8, Option<u64>)); 4] = [
         (b"There", b"A", b"(some r A)", (0, None)),
         (b"Nowhere", b"A B", b"A", (7, None)),
         (b"Here", b"A B", b"", (3, Some(0))),
         (b"Here", b"A", b"(not top", (3, Some(1))),
-        (b"Here", long, b"not", (3, Some(1))),
-        (b"Here", long, long, (11, Some(0))),
-        (b"Here", b"A", long, (11, Some(1))),
     ];
-    assert_eq!(rt; first_wrong(rt.alloc(), &names, &cases)?, None);
+    assert!(rt; first_wrong(rt.alloc(), &names, &cases)?.is_none());
     Ok(())
 }
 
@@ -271,16 +250,40 @@ fn a_put_numbers_its_symbols_or_leaves_them(rt: HostRuntime) -> Result<(), Fail>
     Ok(())
 }
 
-// Whether a line declares peers in a new session.
-fn declares(alloc: Global, line: &[u8]) -> Result<bool, NoMemory> {
+// The code of a line in a new session, 0 where it is a request.
+fn code_of_line(alloc: Global, line: &[u8]) -> Result<u8, NoMemory> {
     let mut symbols = Symbols::new(alloc)?;
     let (code, _) = told(read_request(alloc, &mut symbols, None, line));
-    Ok(code == 0)
+    Ok(code)
 }
 
 #[test]
 fn a_line_is_read_to_its_request(rt: HostRuntime) -> Result<(), Fail> {
-    assert!(rt; declares(rt.alloc(), br#"{"op":"peers","names":["a"]}"#)?);
-    assert!(rt; !declares(rt.alloc(), br#"{"op":"peers","names":["top"]}"#)?);
+    assert!(rt; code_of_line(rt.alloc(), br#"{"op":"peers","names":["a"]}"#)? == 0);
+    assert!(rt; code_of_line(rt.alloc(), br#"{"op":"peers","names":["top"]}"#)? == 17);
+    Ok(())
+}
+
+// Lists in lists, so deep.
+fn nested(alloc: Global, depth: u32) -> Result<Vec<u8>, NoMemory> {
+    let mut line = Vec::new(alloc);
+    for _ in 0..depth {
+        line.push(b'[')?;
+    }
+    for _ in 0..depth {
+        line.push(b']')?;
+    }
+    Ok(line)
+}
+
+fn code_of_nested(alloc: Global, depth: u32) -> Result<u8, NoMemory> {
+    let line = nested(alloc, depth)?;
+    code_of_line(alloc, line.as_slice())
+}
+
+#[test]
+fn a_value_nests_at_most_127_deep(rt: HostRuntime) -> Result<(), Fail> {
+    assert!(rt; code_of_nested(rt.alloc(), 127)? == 2);
+    assert!(rt; code_of_nested(rt.alloc(), 128)? == 1);
     Ok(())
 }

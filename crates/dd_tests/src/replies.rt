@@ -29,67 +29,6 @@ fn names_by_name(reply: &Reply) -> bool
     }
 }
 
-fn put_of(alloc: Global, peer: &[u8]) -> Result<Reply, NoMemory> {
-    Ok(Reply::Put {
-        id: 2,
-        put: Items::from_slice(alloc, peer)?,
-        version: 4294967295,
-    })
-}
-
-fn decided_of(alloc: Global, yes: bool, versions: &[u32]) -> Result<Reply, NoMemory> {
-    let pin = Pin {
-        versions: Items::from_slice(alloc, versions)?,
-    };
-    Ok(Reply::Decided { id: 3, yes, pin })
-}
-
-#[test]
-fn a_reply_is_compact_json(rt: HostRuntime) -> Result<(), Fail> {
-    let alloc = rt.alloc();
-    let put = put_of(alloc, b"p-0")?;
-    let yes = decided_of(alloc, true, &[1, 0, 4294967295])?;
-    let no = decided_of(alloc, false, &[])?;
-    for (reply, expected) in [
-        (put, r#"{"id":2,"put":"p-0","version":4294967295}"#),
-        (yes, r#"{"id":3,"pin":[1,0,4294967295],"verdict":"yes"}"#),
-        (no, r#"{"id":3,"pin":[],"verdict":"no"}"#),
-        (
-            Reply::Peers {
-                id: 18446744073709551615,
-                count: 64,
-            },
-            r#"{"id":18446744073709551615,"peers":64}"#,
-        ),
-        (
-            Reply::Refused {
-                id: 2,
-                code: TOO_MANY_AXIOMS,
-                n: Some(2001),
-            },
-            r#"{"code":9,"error":"too_many_axioms","id":2,"n":2001}"#,
-        ),
-        (Reply::Valid { id: 3 }, r#"{"check":"valid","id":3}"#),
-        (
-            Reply::InvalidWorld {
-                id: 4,
-                fault: BadWorld::Shape,
-            },
-            r#"{"check":"invalid","fault":"shape","id":4}"#,
-        ),
-        (
-            Reply::Unreadable {
-                id: 2,
-                what: Unread::Field("format"),
-            },
-            r#"{"check":"unreadable","field":"format","id":2}"#,
-        ),
-    ] {
-        assert!(rt; prints(alloc, &reply, expected)?);
-    }
-    Ok(())
-}
-
 #[test]
 fn a_fault_has_its_name_and_its_place(rt: HostRuntime) -> Result<(), Fail> {
     for (fault, expected) in [

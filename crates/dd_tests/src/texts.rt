@@ -3,7 +3,7 @@ ghost use Rattle.dd_text.specs.Text.{has_symbols};
 
 use dd_concept::{Concept, NoMemory};
 use dd_text::{
-    CERT, Limits, REQUEST, Symbols, TextErr, print_axiom, print_concept, read_axiom, read_concept,
+    Limits, REQUEST, Symbols, TextErr, print_axiom, print_concept, read_axiom, read_concept,
 };
 use std::alloc::Global;
 use std::test::Fail;
@@ -73,21 +73,5 @@ fn numbers_the_symbols_of_an_axiom_in_the_order_of_its_text(rt: HostRuntime) -> 
     let text = b"(implies (some has Cat) (and Pet (all has Cat)))";
     assert!(rt; is_printed_back(rt.alloc(), &mut symbols, text)?);
     assert!(rt; symbols.name_count() == 2 && symbols.name_number(b"Pet") == 1);
-    Ok(())
-}
-
-// The cause of an axiom's refusal, or 0.
-fn axiom_cause(alloc: Global, symbols: &mut Symbols, text: &[u8]) -> u64 {
-    match read_axiom(alloc, symbols, CERT, text) {
-        Ok(_) => 0,
-        Err(e) => cause(&e),
-    }
-}
-
-#[test]
-fn keeps_the_symbols_where_an_axiom_is_refused(rt: HostRuntime) -> Result<(), Fail> {
-    let mut symbols = Symbols::new(rt.alloc())?;
-    assert!(rt; axiom_cause(rt.alloc(), &mut symbols, b"(implies Dog (not Dog)") == 1_023);
-    assert!(rt; symbols.name_count() == 0);
     Ok(())
 }

@@ -1,6 +1,6 @@
 ghost use Rattle.std.specs.Prelude.{◌≡◌, ◌+◌, ◌^◌, ◌<◌, All, IsTrue, length};
 
-use dd_concept::{Axiom, Concept, Items, NoMemory};
+use dd_concept::{Concept, Items, NoMemory};
 use dd_interp::Interp;
 use dd_peer::{PeerVersion, Pinned, Query, Rule, Shared};
 use dd_world::{World, WorldFault, check_world};
@@ -10,8 +10,6 @@ use std::test::Fail;
 const A: u32 = 0;
 
 const B: u32 = 1;
-
-const C: u32 = 2;
 
 const G: u32 = 3;
 
@@ -62,57 +60,12 @@ fn has_few_rules(p: &Pinned) -> bool
         && v.get().onto.as_slice().len() < 100)
 }
 
-// What is judged of the world that is to show that A is not below `right` at peer 0, where the versions are short.
-fn judged(p: &Pinned, right: u32, w: &World) -> Option<Result<(), WorldFault>> {
+// What is judged of the world that is to show that A is not below B at peer 0, where the versions are short.
+fn judged(p: &Pinned, w: &World) -> Option<Result<(), WorldFault>> {
     if p.peers.as_slice().len() > 2 || !has_few_axioms(p) || !has_few_rules(p) {
         return None;
     }
-    Some(check_world(p, &query(0, A, right), w))
-}
-
-// One peer whose axiom is that A is below B.
-fn one_peer(alloc: Global) -> Result<Pinned, NoMemory> {
-    let mut axioms = Items::new(alloc);
-    axioms.push(Axiom {
-        left: Concept::Name(A),
-        right: Concept::Name(B),
-    })?;
-    let version = PeerVersion {
-        axioms,
-        into: Items::new(alloc),
-        onto: Items::new(alloc),
-    };
-    let mut peers = Items::new(alloc);
-    peers.push(Shared::new(alloc, version)?)?;
-    Ok(Pinned { peers })
-}
-
-fn one_local(alloc: Global, size: u32, names: &[(u32, u32)]) -> Result<World, NoMemory> {
-    let mut locals = Items::new(alloc);
-    locals.push(local(alloc, size, names)?)?;
-    Ok(World {
-        locals,
-        links: Items::new(alloc),
-    })
-}
-
-#[test]
-fn the_world_of_one_peer(rt: HostRuntime) -> Result<(), Fail> {
-    let p = one_peer(rt.alloc())?;
-    let missing_b = WorldFault::Axiom { peer: 0, index: 0 };
-    let table: [(u32, &[(u32, u32)], Result<(), WorldFault>); 6] = [
-        (1, &[(A, 0), (B, 0)], Ok(())),
-        (1, &[(A, 0)], Err(missing_b)),
-        (1, &[(A, 0), (B, 0), (C, 0)], Err(WorldFault::NotCounter)),
-        (1, &[(A, 1)], Err(WorldFault::Shape)),
-        (0, &[], Err(WorldFault::NotCounter)),
-        (u32::MAX, &[(A, 7), (B, 7)], Ok(())),
-    ];
-    for (size, names, wanted) in table {
-        let w = one_local(rt.alloc(), size, names)?;
-        assert!(rt; judged(&p, C, &w) == Some(wanted));
-    }
-    Ok(())
+    Some(check_world(p, &query(0, A, B), w))
 }
 
 fn version(
@@ -167,7 +120,7 @@ fn links_carry_rules_between_two_peers(rt: HostRuntime) -> Result<(), Fail> {
     ];
     for (links, names, wanted) in table {
         let w = two_locals(rt.alloc(), links, names)?;
-        assert!(rt; judged(&p, B, &w) == Some(wanted));
+        assert!(rt; judged(&p, &w) == Some(wanted));
     }
     Ok(())
 }
