@@ -1,8 +1,8 @@
 //! Tests of the libraries, by their public calls. They stand in a crate of their own, since a crate with tests is proved twice.
 //!
-//! They are of what the sessions of the program's own tests do not show: `concepts`, `interpretations`, `peers` and `worlds` of
-//! several peers; `lines` however they are read; `members` of JSON objects; `symbols` and `texts` both ways; and `lookups` and `replies` of
-//! the protocol, with the codes that the program does not answer yet.
+//! They show what no session of the program's own tests shows: `concepts`, `interpretations`, `peers` and `worlds` of several
+//! peers; `lines` however they are read; `members` of JSON objects; `symbols` and `texts` both ways; `lookups` and `replies`
+//! of the protocol, with the codes that the program does not answer yet.
 #![tactic(auto)]
 
 #[cfg(test)]

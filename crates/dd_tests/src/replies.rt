@@ -5,8 +5,8 @@ use dd_concept::{Items, NoMemory};
 use dd_text::is_name;
 use dd_wire::{
     BAD_CONCEPT, BAD_JSON, BAD_PEERS, BAD_PIN, BAD_SHAPE, BadWorld, CONCEPT_LIMIT, LINE_TOO_LONG,
-    NO_PEERS, NOT_BUILT, PEERS_TWICE, Pin, Reply, SAME_PEER, SYMBOLS_FULL, TOO_MANY_AXIOMS,
-    TOO_MANY_RULES, UNKNOWN_PEER, UNKNOWN_SOURCE, Unread, print_reply,
+    NO_PEERS, NOT_BUILT, PEERS_TWICE, Reply, SAME_PEER, SYMBOLS_FULL, TOO_MANY_AXIOMS,
+    TOO_MANY_RULES, UNKNOWN_PEER, UNKNOWN_SOURCE, print_reply,
 };
 use std::alloc::Global;
 use std::test::Fail;
