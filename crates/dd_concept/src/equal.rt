@@ -2,7 +2,7 @@ ghost use Rattle.std.specs.Prelude.{◌≡◌, ◌↔◌, IfOk, IsTrue};
 
 use crate::NoMemory;
 use crate::concept::{Axiom, Concept};
-use sqlite_items::Boxed;
+use crate::construct::{conjunction, disjunction, existential, negation, universal};
 use std::alloc::Global;
 
 /// Whether two concepts are the same tree.
@@ -30,20 +30,11 @@ pub fn copy(alloc: Global, c: &Concept) -> Result<Concept, NoMemory>
         Concept::Top => Ok(Concept::Top),
         Concept::Bottom => Ok(Concept::Bottom),
         Concept::Name(n) => Ok(Concept::Name(*n)),
-        Concept::Not(d) => Ok(Concept::Not(Boxed::new(alloc, copy(alloc, d.get())?)?)),
-        Concept::And(d, e) => Ok(Concept::And(
-            Boxed::new(alloc, copy(alloc, d.get())?)?,
-            Boxed::new(alloc, copy(alloc, e.get())?)?,
-        )),
-        Concept::Or(d, e) => Ok(Concept::Or(
-            Boxed::new(alloc, copy(alloc, d.get())?)?,
-            Boxed::new(alloc, copy(alloc, e.get())?)?,
-        )),
-        Concept::HasSome(r, d) => Ok(Concept::HasSome(
-            *r,
-            Boxed::new(alloc, copy(alloc, d.get())?)?,
-        )),
-        Concept::HasAll(r, d) => Ok(Concept::HasAll(*r, Boxed::new(alloc, copy(alloc, d.get())?)?)),
+        Concept::Not(d) => negation(alloc, copy(alloc, d.get())?),
+        Concept::And(d, e) => conjunction(alloc, copy(alloc, d.get())?, copy(alloc, e.get())?),
+        Concept::Or(d, e) => disjunction(alloc, copy(alloc, d.get())?, copy(alloc, e.get())?),
+        Concept::HasSome(r, d) => existential(alloc, *r, copy(alloc, d.get())?),
+        Concept::HasAll(r, d) => universal(alloc, *r, copy(alloc, d.get())?),
     }
 }
 

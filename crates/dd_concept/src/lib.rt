@@ -5,12 +5,14 @@
 #![tactic(auto)]
 
 mod concept;
+mod construct;
 mod equal;
 mod items;
 mod measure;
 mod normal;
 
 pub use concept::{Axiom, Concept};
+pub use construct::{conjunction, disjunction, existential, negation, universal};
 pub use equal::{copy, copy_axiom, same};
 pub use items::Items;
 pub use measure::{depth, nodes};

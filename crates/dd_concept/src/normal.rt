@@ -3,7 +3,7 @@ ghost use Rattle.dd_concept.specs.Normal.{IsNormal, IsSmallFor, nnf_not_of, nnf_
 
 use crate::NoMemory;
 use crate::concept::Concept;
-use sqlite_items::Boxed;
+use crate::construct::{conjunction, disjunction, existential, negation, universal};
 use std::alloc::Global;
 
 /// The negation normal form: the same concept, with Not pushed down to the names.
@@ -34,21 +34,13 @@ fn positive(alloc: Global, c: &Concept) -> Result<Concept, NoMemory>
         Concept::Name(n) => Ok(Concept::Name(*n)),
         Concept::Not(d) => negative(alloc, d.get()),
         Concept::And(d, e) => {
-            let left = Boxed::new(alloc, positive(alloc, d.get())?)?;
-            Ok(Concept::And(left, Boxed::new(alloc, positive(alloc, e.get())?)?))
+            conjunction(alloc, positive(alloc, d.get())?, positive(alloc, e.get())?)
         }
         Concept::Or(d, e) => {
-            let left = Boxed::new(alloc, positive(alloc, d.get())?)?;
-            Ok(Concept::Or(left, Boxed::new(alloc, positive(alloc, e.get())?)?))
+            disjunction(alloc, positive(alloc, d.get())?, positive(alloc, e.get())?)
         }
-        Concept::HasSome(r, d) => Ok(Concept::HasSome(
-            *r,
-            Boxed::new(alloc, positive(alloc, d.get())?)?,
-        )),
-        Concept::HasAll(r, d) => Ok(Concept::HasAll(
-            *r,
-            Boxed::new(alloc, positive(alloc, d.get())?)?,
-        )),
+        Concept::HasSome(r, d) => existential(alloc, *r, positive(alloc, d.get())?),
+        Concept::HasAll(r, d) => universal(alloc, *r, positive(alloc, d.get())?),
     }
 }
 
@@ -59,23 +51,15 @@ fn negative(alloc: Global, c: &Concept) -> Result<Concept, NoMemory>
     match c {
         Concept::Top => Ok(Concept::Bottom),
         Concept::Bottom => Ok(Concept::Top),
-        Concept::Name(n) => Ok(Concept::Not(Boxed::new(alloc, Concept::Name(*n))?)),
+        Concept::Name(n) => negation(alloc, Concept::Name(*n)),
         Concept::Not(d) => positive(alloc, d.get()),
         Concept::And(d, e) => {
-            let left = Boxed::new(alloc, negative(alloc, d.get())?)?;
-            Ok(Concept::Or(left, Boxed::new(alloc, negative(alloc, e.get())?)?))
+            disjunction(alloc, negative(alloc, d.get())?, negative(alloc, e.get())?)
         }
         Concept::Or(d, e) => {
-            let left = Boxed::new(alloc, negative(alloc, d.get())?)?;
-            Ok(Concept::And(left, Boxed::new(alloc, negative(alloc, e.get())?)?))
+            conjunction(alloc, negative(alloc, d.get())?, negative(alloc, e.get())?)
         }
-        Concept::HasSome(r, d) => Ok(Concept::HasAll(
-            *r,
-            Boxed::new(alloc, negative(alloc, d.get())?)?,
-        )),
-        Concept::HasAll(r, d) => Ok(Concept::HasSome(
-            *r,
-            Boxed::new(alloc, negative(alloc, d.get())?)?,
-        )),
+        Concept::HasSome(r, d) => universal(alloc, *r, negative(alloc, d.get())?),
+        Concept::HasAll(r, d) => existential(alloc, *r, negative(alloc, d.get())?),
     }
 }
