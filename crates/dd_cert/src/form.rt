@@ -2,7 +2,7 @@ use dd_concept::Items;
 use dd_json::Text;
 
 /// A local interpretation as it is written: pairs of a name and an element, triples of a role and two elements.
-#[derive(Debug, Drop)]
+#[derive(Drop)]
 pub struct LocalForm {
     pub names: Items<(Text, u64)>,
     pub roles: Items<(Text, u64, u64)>,
@@ -10,7 +10,7 @@ pub struct LocalForm {
 }
 
 /// A world as it is written.
-#[derive(Debug, Drop)]
+#[derive(Drop)]
 pub struct WorldForm {
     pub links: Items<(u64, u64, u64, u64)>,
     pub locals: Items<LocalForm>,

@@ -16,7 +16,7 @@ use serde_json::Value;
 use std::alloc::Global;
 
 /// The evidence that a certificate carries.
-#[derive(Debug, Drop)]
+#[derive(Drop)]
 pub enum Cert {
     /// A countermodel, for a no.
     No(World),

@@ -1,7 +1,7 @@
 use sqlite_items::Boxed;
 
 /// A concept of ALC. Names and roles are numbers; which texts they stand for is no part of a concept.
-#[derive(Debug, Drop)]
+#[derive(Drop)]
 pub enum Concept {
     Top,
     Bottom,
@@ -14,7 +14,7 @@ pub enum Concept {
 }
 
 /// A general axiom: each element of the left concept is one of the right concept.
-#[derive(Debug, Drop)]
+#[derive(Drop)]
 pub struct Axiom {
     pub left: Concept,
     pub right: Concept,

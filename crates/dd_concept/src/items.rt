@@ -5,7 +5,7 @@ use std::alloc::Global;
 use std::marker::Model;
 
 /// A `Vec` that contracts see as the list of its elements, so that equal lists are equal values.
-#[derive(Debug, Drop)]
+#[derive(Drop)]
 pub struct Items<T> {
     pub list: Vec<T>,
 }

@@ -5,7 +5,7 @@ use std::alloc::{AllocError, Global};
 use std::marker::Model;
 
 /// A source in memory, which tells its bytes and fails at chosen calls.
-#[derive(Debug, Drop)]
+#[derive(Drop)]
 pub struct MemSource {
     bytes: Vec<u8>,
     at: usize,
@@ -61,7 +61,7 @@ impl Source for MemSource {
 }
 
 /// A sink in memory of a fixed capacity, which tells its bytes and fails at chosen calls.
-#[derive(Debug, Drop)]
+#[derive(Drop)]
 pub struct MemSink {
     bytes: Vec<u8>,
     capacity: usize,

@@ -16,7 +16,7 @@ const LINE_FEED: u8 = 10;
 const READ_AHEAD: usize = 8192;
 
 /// The next line of a reader.
-#[derive(Debug, Drop)]
+#[derive(Drop)]
 pub enum LineStep {
     /// The bytes of a line, without its line feed.
     Line(Vec<u8>),
@@ -71,7 +71,7 @@ enum Stop {
 ///
 /// A line is the bytes up to a line feed, without it; the last line may lack the line feed where it has at least one
 /// byte. Each byte is searched once, however the source cuts the bytes into reads.
-#[derive(Debug, Drop)]
+#[derive(Drop)]
 pub struct LineReader {
     buffer: Vec<u8>,
     start: usize,

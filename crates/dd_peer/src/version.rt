@@ -6,7 +6,7 @@ use crate::shared::Shared;
 use dd_concept::{Axiom, Concept, Items};
 
 /// A bridge rule, seen from the peer that keeps it: `from` is the other peer, and `source` is a concept of that one.
-#[derive(Debug, Drop)]
+#[derive(Drop)]
 pub struct Rule {
     pub from: u32,
     pub source: Concept,
@@ -14,7 +14,7 @@ pub struct Rule {
 }
 
 /// What a peer says at one moment: its axioms, its into rules and its onto rules, each in the order of the request.
-#[derive(Debug, Drop)]
+#[derive(Drop)]
 pub struct PeerVersion {
     pub axioms: Items<Axiom>,
     pub into: Items<Rule>,
@@ -22,19 +22,19 @@ pub struct PeerVersion {
 }
 
 /// The versions that a pin names, one per peer.
-#[derive(Debug, Drop)]
+#[derive(Drop)]
 pub struct Pinned {
     pub peers: Items<Shared<PeerVersion>>,
 }
 
 /// One version number per peer: how many of its puts count.
-#[derive(Debug, Drop)]
+#[derive(Drop)]
 pub struct Pin {
     pub versions: Items<u32>,
 }
 
 /// Is each element of `left` at this peer one of `right`?
-#[derive(Debug, Drop)]
+#[derive(Drop)]
 pub struct Query {
     pub peer: u32,
     pub left: Concept,

@@ -3,7 +3,7 @@ use dd_interp::Interp;
 
 /// A world: a local interpretation per peer, in the order of the peers, and links. The link (i, j, a, b) leads from element
 /// a of peer i to element b of peer j. Order and repeats of links mean nothing.
-#[derive(Debug, Drop)]
+#[derive(Drop)]
 pub struct World {
     pub locals: Items<Interp>,
     pub links: Items<(u32, u32, u32, u32)>,

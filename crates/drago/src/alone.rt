@@ -1,23 +1,16 @@
-ghost use Rattle.std.specs.Prelude.{◌≡◌, ℕ, ◌<◌, ◌≤◌, ◌⊎◌, ◌↔◌, List, [], Option, map, IfSome, IfOk, length, ◌≢◌, Some, IsTrue};
+ghost use Rattle.std.specs.Prelude.{◌≡◌, ℕ, ◌≤◌, ◌↔◌, List, Option, map, length, Some, IsTrue};
 ghost use Rattle.std.specs.String.{string_bytes};
-ghost use Rattle.dd_lines.specs.NextLine.{IsGoing};
 ghost use Rattle.dd_lines.specs.Outside.{Rose};
-ghost use Rattle.dd_lines.specs.Reading.{room, ahead};
-ghost use Rattle.drago.specs.Headline.{IsAlone, Output, Cause, Limit, Ends, most_bytes};
-ghost use Rattle.drago.specs.Session.{start, longest_line};
-ghost use Rattle.drago.specs.SessionState.{state_of};
+ghost use Rattle.dd_server.specs.Headline.{Output, Cause, Limit, Ends, most_bytes};
+ghost use Rattle.dd_server.specs.declared.status.Status.{Status};
+ghost use Rattle.drago.specs.Words.{IsAlone};
 
-use crate::session::Session;
-use crate::status::Status;
-use crate::turn::{TurnErr, turn};
-use dd_lines::{LineReader, LineStep, ReadErr, Sink, Source};
+use dd_lines::{Sink, Source};
+use dd_server::{Status, serve_alone};
 use std::alloc::Global;
 
-/// The most bytes of a line, its line feed aside.
-const LONGEST_LINE: usize = 1_048_576;
-
-/// The most bytes that a session reads.
-const MOST_BYTES: u64 = 4_294_967_296;
+/// What the program writes to standard error where its words are no command.
+pub const USAGE: &[u8] = b"usage: drago serve|alone|make|drill [options]\n";
 
 /// Does what the words after the program's name ask for: with the one word `alone` a session on one thread.
 ///
@@ -52,60 +45,4 @@ fn is_alone(words: &[String]) -> bool
     ensures { IsTrue result ↔ IsAlone (map string_bytes words.now) }
 {
     words.len() == 1 && words[0].as_str() == "alone"
-}
-
-/// A session over the lines of the source, each request a window of its own.
-fn serve_alone<S: Source, K: Sink>(alloc: Global, source: &mut S, sink: &mut K) -> Status
-    ensures output { Output result (S.left source.old) (S.left source.new) (K.given sink.old) (K.given sink.new) }
-    ensures cause { Cause result (S.fault_count source.old) (S.fault_count source.new) (K.fault_count sink.old) (K.fault_count sink.new) }
-    ensures limit { Limit result (S.left source.old) }
-    ensures no_words { result ≢ Status.Words }
-    ensures reads { S.fault_count source.old ≤ S.fault_count source.new }
-    ensures writes { K.fault_count sink.old ≤ K.fault_count sink.new }
-{
-    let Ok(mut reader) = LineReader::new(alloc, LONGEST_LINE, MOST_BYTES) else {
-        return Status::Memory;
-    };
-    let Ok(mut session) = Session::new(alloc) else {
-        return Status::Memory;
-    };
-    answer_lines(alloc, &mut reader, &mut session, source, sink)
-}
-
-/// Answers each line, one after another.
-fn answer_lines<S: Source, K: Sink>(
-    alloc: Global,
-    reader: &mut LineReader,
-    session: &mut Session,
-    source: &mut S,
-    sink: &mut K,
-) -> Status
-    requires fresh { reader.old.held ≡ [] }
-    requires limit { room reader.old ≡ most_bytes }
-    requires lines { reader.old.max_line ≡ longest_line }
-    requires going { IsGoing reader.old }
-    requires starts { state_of session.old ≡ start }
-    ensures output { Output result (S.left source.old) (S.left source.new) (K.given sink.old) (K.given sink.new) }
-    ensures cause { Cause result (S.fault_count source.old) (S.fault_count source.new) (K.fault_count sink.old) (K.fault_count sink.new) }
-    ensures limit { Limit result (S.left source.old) }
-    ensures no_words { result ≢ Status.Words }
-    ensures reads { S.fault_count source.old ≤ S.fault_count source.new }
-    ensures writes { K.fault_count sink.old ≤ K.fault_count sink.new }
-{
-    let mut requests = 0;
-    loop {
-        let step = match reader.next_line(alloc, source) {
-            Ok(LineStep::End) => return Status::Done,
-            Ok(step) => step,
-            Err(ReadErr::TooMuch) => return Status::TooMuch,
-            Err(ReadErr::NoMemory) => return Status::Memory,
-            Err(ReadErr::ReadFault) => return Status::ReadFault,
-            Err(ReadErr::Failed { .. }) => unreachable!(),
-        };
-        match turn(alloc, session, &mut requests, step, sink) {
-            Ok(()) => {}
-            Err(TurnErr::Memory) => return Status::Memory,
-            Err(TurnErr::Write) => return Status::WriteFault,
-        }
-    }
 }

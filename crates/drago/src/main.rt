@@ -1,23 +1,14 @@
 //! The program: a reasoner for Distributed Description Logics that answers request lines with proved verdicts.
 //!
-//! `alone` has the top call, `turn` answers one line, `session` one request, with `refusal` and `judge` for two kinds of
-//! replies; `version`, `rows` and `walk` decide questions between names. What the top call promises is
-//! `specs/Headline.antt`.
+//! `alone` has the top call, which reads the words. What it promises is `specs/Words.antt`, and `specs/Headline.antt` of
+//! `dd_server`.
 #![tactic(auto)]
 
 mod alone;
-mod judge;
-mod refusal;
-mod rows;
-mod session;
-mod status;
-mod turn;
-mod version;
-mod walk;
 
-use crate::alone::drago_alone;
-use crate::status::{Status, USAGE};
+use crate::alone::{USAGE, drago_alone};
 use dd_lines::{StdSink, StdSource};
+use dd_server::Status;
 use std::process::ExitCode;
 use std::{env, io};
 

@@ -1,7 +1,6 @@
 ghost use Rattle.std.specs.Prelude.{◌≤◌};
 
-use crate::alone::drago_alone;
-use crate::status::USAGE;
+use crate::alone::{USAGE, drago_alone};
 use dd_lines::{MemSink, MemSource};
 use std::alloc::Global;
 use std::test::Fail;

@@ -1,0 +1,100 @@
+-- One request as a window of its own, and lines without a request.
+use Rattle.std.proofs.Common.{◌≡◌, ℕ, ◌+◌, ◌<◌, ◌≤◌, List, [], ◌∷◌, length, Bool, true, false, refl, ap, sym, ◌∙◌, subst, arith, None, Ok, Err}
+use Rattle.std.proofs.lemmas.Bool.{le-leb, lt-leb}
+use Rattle.dd_wire.specs.Forms.{Written}
+use Rattle.dd_wire.specs.Lines.{form_in}
+use Rattle.dd_wire.specs.Refusal.{Refusal, Tested, ◌>>=◌, demand, refused, line_too_long, not_built}
+use Rattle.dd_wire.specs.Requests.{AfterForm}
+use Rattle.dd_wire.specs.declared.reply.Reply.{Reply}
+use Rattle.dd_wire.specs.declared.reply.Reply.TheVariants as reply
+use Rattle.dd_server.specs.Does.{AnsweredForm, AnsweredLine}
+use Rattle.dd_server.specs.Session.{State, Standing, Kept, finished, longest_line, is_blank, is_built, built_form, admitted, reads, WithRequest, Turns, Turn}
+
+-- the standing of a state between windows
+abbrev pub between : State → ℕ → Standing
+between s n = record { state = s; requests = n; kept = [] }
+
+pub turn_blank : (s : State) (n : ℕ) (line : List ℕ) → is_blank line ≡ true → Turn 1 (between s n) line (between s n) []
+turn_blank s n line h = subst (λ b. Turns b 1 (between s n) line (between s n) []) (sym h) (((refl, refl), refl), refl)
+
+pub turn_answered : (s new : State) (n : ℕ) (line : List ℕ) (given : Reply) → is_blank line ≡ false → AnsweredLine s (n + 1) line new given
+    → Turn 1 (between s n) line (between new (n + 1)) (given ∷ [])
+turn_answered s new n line given h answered =
+    let same : (new, answered.2.0) ≡ reads s (n + 1) answered.0 = sym answered.2.1 in
+    subst (λ b. Turns b 1 (between s n) line (between new (n + 1)) (given ∷ [])) (sym h) (
+      answered.0,
+      answered.1,
+      subst (λ (r : State × Kept). WithRequest 1 (between s n) r (between new (n + 1)) (given ∷ [])) same
+          ((given, [], answered.2.2, (refl, refl), refl), refl),
+      refl,
+    )
+
+-- ---- the tests of a line
+
+-- the tests of a line behind the one of its length, for what its form is
+after_length : State → Tested Written → Bool → Tested Written
+after_length s t short = demand line_too_long short >>= (λ is. t >>= (λ w. demand not_built (is_built s w) >>= (λ built. Ok w)))
+
+too_long-form : (s : State) (line : List ℕ) → longest_line < length line → built_form s line ≡ Err (refused 16)
+unfolding after_length
+too_long-form s line h = ap (after_length s (form_in line)) (lt-leb (length line) longest_line h)
+
+-- the test of what a form is
+if_built : State → Written → Bool → Tested Written
+if_built s w built = demand not_built built >>= (λ is. Ok w)
+
+short-form : (s : State) (line : List ℕ) (t : Tested Written) → length line ≤ longest_line → form_in line ≡ t
+    → built_form s line ≡ (t >>= (λ w. if_built s w (is_built s w)))
+unfolding after_length if_built
+short-form s line t h e = ap (after_length s (form_in line)) (le-leb (length line) longest_line h) ∙ ap (λ (u : Tested Written). u >>= (λ w. if_built s w (is_built s w))) e
+
+pub built-form : (s : State) (line : List ℕ) (w : Written) → length line ≤ longest_line → form_in line ≡ Ok w → is_built s w ≡ true → built_form s line ≡ Ok w
+unfolding if_built
+built-form s line w short e built = short-form s line (Ok w) short e ∙ ap (if_built s w) built
+
+pub not_built-form : (s : State) (line : List ℕ) (w : Written) → length line ≤ longest_line → form_in line ≡ Ok w → is_built s w ≡ false → built_form s line ≡ Err (refused 17)
+unfolding if_built
+not_built-form s line w short e built = short-form s line (Ok w) short e ∙ ap (if_built s w) built
+
+pub refused-form : (s : State) (line : List ℕ) (r : Refusal) → length line ≤ longest_line → form_in line ≡ Err r → built_form s line ≡ Err r
+refused-form s line r short e = short-form s line (Err r) short e
+
+-- a line whose form is refused gets that refusal, and nothing changes
+pub answered-refused : (s : State) (id : ℕ) (line : List ℕ) (e : Refusal) (given : Reply) → built_form s line ≡ Err e → given ≡ reply.Refused id e.code e.n
+    → AnsweredLine s id line s given
+answered-refused s id line e given is same = (
+  Err e,
+  (
+    Err e,
+    subst (λ (t : Tested Written). AfterForm t s.peers s.symbols (Err e)) (sym is) refl,
+    refl,
+  ),
+  (finished (reply.Refused id e.code e.n), refl, same),
+)
+
+pub answered-too_long : (s : State) (id : ℕ) (line : List ℕ) (given : Reply) → longest_line < length line → given ≡ reply.Refused id 16 None → AnsweredLine s id line s given
+answered-too_long s id line given h e = answered-refused s id line (refused 16) given (too_long-form s line h) e
+
+-- what is answered to the form of a line is answered to the line
+pub answered-form : (s new : State) (id : ℕ) (line : List ℕ) (w : Written) (given : Reply) → built_form s line ≡ Ok w → AnsweredForm s id w new given
+    → AnsweredLine s id line new given
+answered-form s new id line w given is answered = (
+  answered.0 >>= admitted s,
+  (
+    answered.0,
+    subst (λ (t : Tested Written). AfterForm t s.peers s.symbols answered.0) (sym is) answered.1,
+    refl,
+  ),
+  answered.2,
+)
+
+pub too_long-not_blank : (line : List ℕ) → longest_line < length line → is_blank line ≡ false
+too_long-not_blank [] h = absurd (none h)
+  where
+    none : longest_line < 0 → ⊥
+    none k = omega arith
+too_long-not_blank (b ∷ []) h = absurd (one h)
+  where
+    one : longest_line < 1 → ⊥
+    one k = omega arith
+too_long-not_blank (b ∷ c ∷ bs) h = refl

@@ -1,0 +1,74 @@
+-- For private clauses: what the code knows of a request before it is answered, and what it says of the state after it.
+use Rattle.std.specs.Prelude.{◌≡◌, ℕ, ◌<◌, Bool, true, false, List, [], length, take, slice_get, Option, None, Some, IsSome, ⊤}
+use Rattle.serde_json.specs.View.{view}
+use Rattle.serde_json.specs.Data.{Data}
+use Rattle.dd_concept.specs.declared.concept.Concept.TheVariants.{Name}
+use Rattle.dd_text.specs.Symbols.{SymbolLists}
+use Rattle.dd_text.specs.declared.symbols.Mark.{Mark}
+use Rattle.dd_peer.specs.Refusals.{refusal_of}
+use Rattle.dd_peer.specs.declared.check.PeerErr.{PeerErr}
+use Rattle.dd_peer.specs.declared.version.PeerVersion.{PeerVersion}
+use Rattle.dd_peer.specs.declared.version.Query.{Query}
+use Rattle.dd_cert.specs.Certificates.{cert_in}
+use Rattle.dd_wire.specs.Placed.{are_peers}
+use Rattle.dd_wire.specs.Forms.{Written}
+use Rattle.dd_wire.specs.Refusal.{Tested, ◌>>=◌, not_built, bad_pin}
+use Rattle.dd_wire.specs.Requests.{Tests}
+use Rattle.dd_wire.specs.Texts.{Resolved}
+use Rattle.dd_wire.specs.declared.reply.Reply.{Reply}
+use Rattle.dd_wire.specs.declared.reply.Reply.TheVariants as reply
+use Rattle.dd_wire.specs.declared.request.Request.{Request}
+use Rattle.dd_wire.specs.declared.request.Request.TheVariants.{Peers, Put, Ask, Check, Versions}
+use Rattle.dd_server.specs.Above.{is_plain}
+use Rattle.dd_server.specs.Answers.{Job, Answer, Answers}
+use Rattle.dd_server.specs.History.{present_version, pin_of, is_pin}
+use Rattle.dd_server.specs.Session.{State, Passes, admitted, Answered, refused_version, with_put, job_at, Judges, is_yes, names_of}
+
+-- symbols that are cut to the mark are those from before
+pub record CutsTo (m : Mark) (now before : SymbolLists) : Type 0 where
+  pub names : take m.names now.names ≡ before.names
+  pub roles : take m.roles now.roles ≡ before.roles
+
+-- a question between two names
+abbrev pub AsksNames : Query → Type 0
+AsksNames q = (left : ℕ) × (right : ℕ) × (q ≡ record { peer = 0; left = Name left; right = Name right })
+
+-- what the tests have made sure of a request
+abbrev pub Fits : State → Request → Type 0
+Fits s (Peers names) = (are_peers names ≡ true) × (length names ≡ 1)
+Fits s (Put n v) = (s.history ≡ []) × (n < length (names_of s))
+Fits s (Ask q expansions verdicts) = AsksNames q × (is_plain (present_version 0 s.history) ≡ true) × (IsSome s.peers)
+Fits s (Check q pin cert) = IsSome s.peers
+Fits s Versions = ⊤
+
+-- a put is refused by what its version lacks, or is appended to the history
+abbrev pub PutBy : Option PeerErr → State → ℕ → SymbolLists → ℕ → PeerVersion → State → Reply → Type 0
+PutBy (Some e) old id s n v new given = (new ≡ old) × (given ≡ reply.Refused id (refused_version e).code (refused_version e).n)
+PutBy None old id s n v new given = (new ≡ with_put old s n v)
+    × (name : List ℕ) × (slice_get (names_of old) n ≡ Some name) × (given ≡ reply.Put id name 1)
+
+abbrev pub CheckBy : Bool → ℕ → Job → SymbolLists → Data → Reply → Type 0
+CheckBy true id job s cert given = Judges id job (cert_in s cert) given
+CheckBy false id job s cert given = given ≡ reply.Refused id bad_pin None
+
+-- what a request does to the state from before its symbols were added
+abbrev pub Does : State → ℕ → SymbolLists → Request → State → Reply → Type 0
+Does old id s (Peers names) new given = (new ≡ record old { peers = Some names; symbols = s }) × (given ≡ reply.Peers id (length names))
+Does old id s (Put n v) new given = PutBy (refusal_of v (length (names_of old)) n) old id s n v new given
+Does old id s (Ask q expansions verdicts) new given = (new ≡ record old { symbols = s }) × (answer : Answer)
+    × Answers (job_at old (pin_of (names_of old) old.history) q) answer
+    × (given ≡ reply.Decided id (is_yes answer) (record { versions = pin_of (names_of old) old.history }))
+Does old id s (Check q pin cert) new given = (new ≡ old)
+    × CheckBy (is_pin (names_of old) pin.versions old.history) id (job_at old pin.versions q) s (view cert) given
+Does old id s Versions new given = (new ≡ record old { symbols = s }) × (given ≡ reply.Refused id not_built None)
+
+-- ---- a form, and a line
+
+-- this reply may be given to a form that is built
+abbrev pub AnsweredForm : State → ℕ → Written → State → Reply → Type 0
+AnsweredForm old id w new given = (texts : Tested Resolved) × Tests old.peers old.symbols w texts
+    × Answered old id (texts >>= admitted old) new given
+
+-- this reply may be given to a line that is a request
+abbrev pub AnsweredLine : State → ℕ → List ℕ → State → Reply → Type 0
+AnsweredLine old id line new given = (found : Tested Resolved) × Passes old line found × Answered old id found new given

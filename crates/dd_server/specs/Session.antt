@@ -1,0 +1,239 @@
+-- A session: how a line changes the state and what is replied to it, window by window.
+use Rattle.std.specs.Prelude.{◌≡◌, ℕ, ◌+◌, ◌==◌, ◌&&◌, ◌⊎◌, Bool, true, false, nat_le, List, [], ◌∷◌, ◌++◌, length, Option, None, Some, Ok, Err}
+use denote.Bor.{Bor}
+use Rattle.std.specs.List.{flat_map}
+use Rattle.dd_lines.specs.Lines.{lines_of}
+use Rattle.dd_text.specs.Reads.{told}
+use Rattle.dd_text.specs.Symbols.{SymbolLists, number_of}
+use Rattle.dd_peer.specs.Refusals.{refusal_of}
+use Rattle.dd_peer.specs.declared.check.PeerErr.{PeerErr}
+use Rattle.dd_peer.specs.declared.check.PeerErr.TheVariants.{SamePeer, UnknownPeer, TooManyAxioms, TooManyRules}
+use Rattle.dd_peer.specs.declared.version.PeerVersion.{PeerVersion}
+use Rattle.dd_peer.specs.declared.version.Query.{Query}
+use Rattle.dd_world.specs.Faults.{IsFirstFault}
+use Rattle.dd_world.specs.World.{IsCounter}
+use Rattle.dd_world.specs.declared.world.World.{World}
+use Rattle.dd_world.specs.declared.world.WorldFault.{WorldFault}
+use Rattle.dd_world.specs.declared.world.WorldFault.TheVariants as fault
+use Rattle.dd_cert.specs.Certificates.{Tried, Certified, Unreadable, field, place, text, full, cert_in}
+use Rattle.dd_wire.specs.Accepted.{is_accepted, is_empty}
+use Rattle.dd_wire.specs.Forms.{Written}
+use Rattle.dd_wire.specs.Forms as form
+use Rattle.dd_wire.specs.Lines.{form_in}
+use Rattle.dd_wire.specs.Refusal.{Refusal, Tested, ◌>>=◌, demand, refused_at, line_too_long, not_built, same_peer, unknown_source, too_many_axioms, too_many_rules, bad_pin, symbols_full}
+use Rattle.dd_wire.specs.Replies.{reply_text}
+use Rattle.dd_wire.specs.Requests.{AfterForm, declared_names, query_of, version_of}
+use Rattle.dd_wire.specs.Texts.{Parsed, Resolved}
+use Rattle.dd_wire.specs.Texts as parsed
+use Rattle.dd_wire.specs.declared.reply.BadWorld.{BadWorld}
+use Rattle.dd_wire.specs.declared.reply.BadWorld.TheVariants as bad
+use Rattle.dd_wire.specs.declared.reply.Unread.TheVariants as unread
+use Rattle.dd_wire.specs.declared.reply.Reply.{Reply}
+use Rattle.dd_wire.specs.declared.reply.Reply.TheVariants as reply
+use Rattle.dd_server.specs.Above.{is_plain}
+use Rattle.dd_server.specs.Answers.{Job, Answer, follows, fails, Answers}
+use Rattle.dd_server.specs.History.{Accepted, last_version, present_version, pin_of, pinned_by, is_pin}
+
+abbrev pub longest_line : ℕ
+longest_line = 1048576
+
+-- the declared peers, if there are any yet, the texts that stand for numbers, and the accepted puts
+pub record State : Type 0 where
+  pub peers : Option (List (List ℕ))
+  pub symbols : SymbolLists
+  pub history : List Accepted
+
+-- the state before the first request
+abbrev pub start : State
+start = record { peers = None; symbols = record { names = []; roles = [] }; history = [] }
+
+-- the names of the declared peers, in declared order
+abbrev pub names_of : State → List (List ℕ)
+names_of state = declared_names state.peers
+
+-- what the requests of a window leave for its end: a finished reply; an ask with its number, its pin and its job; or a
+-- check with its number, its job, and the world that its certificate is
+pub data Kept : Type 0 where
+  finished : Reply → Kept
+  asked : ℕ → List ℕ → Job → Kept
+  judged : ℕ → Job → Tried Certified → Kept
+
+-- ---- the tests of a line, in their order: the first that fails refuses it
+
+-- the first put, and asks of a peer whose version is between names
+abbrev pub is_open : State → Written → Bool
+is_open state (form.peers names) = true
+is_open state (form.put peer axioms into onto) = is_empty state.history
+is_open state (form.ask peer left right expansions verdicts) = is_plain (present_version (number_of (names_of state) peer) state.history)
+is_open state (form.check peer left right pin cert) = true
+is_open state form.versions = true
+
+-- is the form one that is accepted so far
+abbrev pub is_built : State → Written → Bool
+is_built state w = is_accepted state.peers w && is_open state w
+
+-- the form of a line
+abbrev pub built_form : State → List ℕ → Tested Written
+built_form state line = demand line_too_long (nat_le (length line) longest_line)
+    >>= (λ short. form_in line >>= (λ w. demand not_built (is_built state w) >>= (λ built. Ok w)))
+
+-- the code of a version that may not be one
+abbrev pub refused_version : PeerErr → Refusal
+refused_version (SamePeer rule) = refused_at same_peer rule
+refused_version (UnknownPeer rule) = refused_at unknown_source rule
+refused_version (TooManyAxioms count) = refused_at too_many_axioms count
+refused_version (TooManyRules from count) = refused_at too_many_rules count
+
+abbrev pub may_be_version : Option PeerErr → Tested Bool
+may_be_version None = Ok true
+may_be_version (Some e) = Err (refused_version e)
+
+-- the tests that ask what the state has, once the texts were read
+abbrev pub admits : State → SymbolLists → Parsed → Tested Bool
+admits state s (parsed.peers names) = Ok true
+admits state s (parsed.put peer axioms into onto) =
+    may_be_version (refusal_of (version_of (names_of state) s axioms into onto) (length (names_of state)) (number_of (names_of state) peer))
+admits state s (parsed.ask peer left right expansions verdicts) = Ok true
+admits state s (parsed.check peer left right pin cert) = demand bad_pin (is_pin (names_of state) pin state.history)
+admits state s parsed.versions = Ok true
+
+abbrev pub admitted : State → Resolved → Tested Resolved
+admitted state r = admits state r.symbols r.request >>= (λ ok. Ok r)
+
+-- what the tests of a line find: its request, or the refusal
+abbrev pub Passes : State → List ℕ → Tested Resolved → Type 0
+Passes state line found = (texts : Tested Resolved) × AfterForm (built_form state line) state.peers state.symbols texts
+    × (found ≡ (texts >>= admitted state))
+
+-- ---- reading a line
+
+-- an accepted put is appended to the history
+abbrev pub with_put : State → SymbolLists → ℕ → PeerVersion → State
+with_put state s peer version = record {
+  peers = state.peers;
+  symbols = s;
+  history = state.history ++ record { peer = peer; version = version } ∷ [];
+}
+
+-- a job under a pin
+abbrev pub job_at : State → List ℕ → Query → Job
+job_at state pin query = record { pinned = pinned_by pin state.history; query = query }
+
+-- an ask is kept with its job under the pin of this moment
+abbrev pub with_ask : State → SymbolLists → ℕ → Query → State × Kept
+with_ask state s id query = let pin = pin_of (names_of state) state.history in
+    (record state { symbols = s }, asked id pin (job_at state pin query))
+
+-- what an accepted request does, whose symbols have been added; a check leaves the symbols as they were
+abbrev pub does : State → ℕ → SymbolLists → Parsed → State × Kept
+does state id s (parsed.peers names) = (record state { peers = Some names }, finished (reply.Peers id (length names)))
+does state id s (parsed.put peer axioms into onto) =
+    let n = number_of (names_of state) peer in
+    let new = with_put state s n (version_of (names_of state) s axioms into onto) in
+    (new, finished (reply.Put id peer (last_version n new.history)))
+does state id s (parsed.ask peer left right expansions verdicts) = with_ask state s id (query_of (names_of state) s peer left right)
+does state id s (parsed.check peer left right pin cert) =
+    (state, judged id (job_at state pin (query_of (names_of state) s peer left right)) (cert_in s cert))
+-- no test lets it through so far
+does state id s parsed.versions = (state, finished (reply.Refused id not_built None))
+
+-- a refused line changes nothing
+abbrev pub reads : State → ℕ → Tested Resolved → State × Kept
+reads state id (Ok r) = does state id r.symbols r.request
+reads state id (Err e) = (state, finished (reply.Refused id e.code e.n))
+
+-- ---- finishing a window
+
+abbrev pub is_yes : Answer → Bool
+is_yes follows = true
+is_yes fails = false
+
+-- why a world is no countermodel, as it is replied
+abbrev pub fault_replied : WorldFault → BadWorld
+fault_replied fault.Shape = bad.Shape
+fault_replied (fault.Axiom peer index) = bad.Axiom index peer
+fault_replied (fault.Into peer index) = bad.Into index peer
+fault_replied (fault.Onto peer index) = bad.Onto index peer
+fault_replied fault.NotCounter = bad.NotCounter
+
+-- a check of a world is valid exactly where the world is a countermodel, and else its first fault is replied
+abbrev pub JudgesWorld : ℕ → Job → World → Reply → Type 0
+JudgesWorld id job w given = ((given ≡ reply.Valid id) × IsCounter job.pinned job.query w)
+    ⊎ ((f : WorldFault) × IsFirstFault job.pinned job.query w f × (given ≡ reply.InvalidWorld id (fault_replied f)))
+
+-- where a value stops to be a certificate, as it is replied; where it brings too many symbols the request is refused
+abbrev pub IsUnread : ℕ → Unreadable → Reply → Type 0
+IsUnread id (field name) given = (what : Bor (List ℕ)) × (what.now ≡ name) × (given ≡ reply.Unreadable id (unread.Field what))
+IsUnread id (place at value) given = given ≡ reply.Unreadable id (unread.Place (told at) value)
+IsUnread id (text at) given = given ≡ reply.Unreadable id (unread.Text (told at))
+IsUnread id full given = given ≡ reply.Refused id symbols_full None
+
+-- what is replied to a check, by the world that its certificate is, or where the certificate stops to be one
+abbrev pub Judges : ℕ → Job → Tried Certified → Reply → Type 0
+Judges id job (Ok c) given = JudgesWorld id job c.world given
+Judges id job (Err e) given = IsUnread id e given
+
+abbrev pub Finished : Kept → Reply → Type 0
+Finished (finished done) given = given ≡ done
+Finished (asked id pin job) given = (answer : Answer) × Answers job answer
+    × (given ≡ reply.Decided id (is_yes answer) (record { versions = pin }))
+Finished (judged id job found) given = Judges id job found given
+
+-- this reply may be given to what the tests of a request found, as a window of its own
+abbrev pub Answered : State → ℕ → Tested Resolved → State → Reply → Type 0
+Answered old id found new reply = (kept : Kept) × (reads old id found ≡ (new, kept)) × Finished kept reply
+
+-- the replies of what was kept, in request order
+abbrev pub Finish : State → List Kept → State → List Reply → Type 0
+Finish old [] new replies = (new ≡ old) × (replies ≡ [])
+Finish old (k ∷ ks) new replies = (first : Reply) × (more : List Reply) × Finished k first × Finish old ks new more × (replies ≡ first ∷ more)
+
+-- ---- the whole session
+
+-- a line without a byte, or with one carriage return alone, is no request and ends a window
+abbrev pub is_blank : List ℕ → Bool
+is_blank [] = true
+is_blank (b ∷ []) = b == 13
+is_blank (b ∷ c ∷ bs) = false
+
+-- a window ends here, or goes on with what it keeps
+abbrev pub Closes : Bool → State → List Kept → State → List Kept → List Reply → Type 0
+Closes true old kept new rest replies = Finish old kept new replies × (rest ≡ [])
+Closes false old kept new rest replies = (new ≡ old) × (rest ≡ kept) × (replies ≡ [])
+
+-- where a session stands: its state, how many requests it has read, and what its window keeps
+pub record Standing : Type 0 where
+  pub state : State
+  pub requests : ℕ
+  pub kept : List Kept
+
+-- a window goes on or ends with what was read of one more request
+abbrev pub WithRequest : ℕ → Standing → State × Kept → Standing → List Reply → Type 0
+WithRequest window old read new replies = let kept = old.kept ++ read.1 ∷ [] in
+    Closes (length kept == window) read.0 kept new.state new.kept replies
+
+abbrev pub Turns : Bool → ℕ → Standing → List ℕ → Standing → List Reply → Type 0
+Turns true window old line new replies = Closes true old.state old.kept new.state new.kept replies × (new.requests ≡ old.requests)
+Turns false window old line new replies = (found : Tested Resolved) × Passes old.state line found
+    × WithRequest window old (reads old.state (old.requests + 1) found) new replies × (new.requests ≡ old.requests + 1)
+
+-- what one line does, and the replies that are given when it ends a window
+abbrev pub Turn : ℕ → Standing → List ℕ → Standing → List Reply → Type 0
+Turn window old line new replies = Turns (is_blank line) window old line new replies
+
+-- the replies that may be given from here on for these lines
+abbrev pub From : ℕ → Standing → List (List ℕ) → List Reply → Type 0
+From window old [] replies = (new : State) × Finish old.state old.kept new replies
+From window old (line ∷ lines) replies = (new : Standing) × (first : List Reply) × (more : List Reply)
+    × Turn window old line new first × From window new lines more × (replies ≡ first ++ more)
+
+abbrev pub opening : Standing
+opening = record { state = start; requests = 0; kept = [] }
+
+-- the replies that may be given for an input, with windows of so many requests
+abbrev pub Session : ℕ → List ℕ → List Reply → Type 0
+Session window input replies = From window opening (lines_of input) replies
+
+-- the replies as they are written, each with a line feed
+abbrev pub written : List Reply → List ℕ
+written replies = flat_map (λ r. reply_text r ++ 10 ∷ []) replies

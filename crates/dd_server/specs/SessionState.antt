@@ -1,0 +1,14 @@
+-- The state that a session in memory stands for.
+use Rattle.std.specs.Prelude.{List, [], ◌∷◌, Option, None, Some}
+use Rattle.dd_server.specs.declared.session.Session.{Session}
+use Rattle.dd_server.specs.declared.version.Version.{Version}
+use Rattle.dd_server.specs.History.{Accepted}
+use Rattle.dd_server.specs.Session.{State}
+
+-- there was one put, of the only peer, or none
+abbrev pub history_of : Option Version → List Accepted
+history_of None = []
+history_of (Some v) = record { peer = 0; version = v.version } ∷ []
+
+abbrev pub state_of : Session → State
+state_of s = record { peers = s.names; symbols = s.symbols; history = history_of s.put }

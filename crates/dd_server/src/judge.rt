@@ -1,0 +1,103 @@
+ghost use Rattle.std.specs.Prelude.{◌≡◌, ◌<◌, ◌+◌, ◌^◌, IfOk, All, length, Result};
+ghost use Rattle.serde_json.specs.View.{view};
+ghost use Rattle.dd_text.specs.Symbols.{Grows};
+ghost use Rattle.dd_cert.specs.Certificates.{Tells, cert_in, Certified, Tried};
+ghost use Rattle.dd_world.specs.Faults.{judged_by, fault_of};
+ghost use Rattle.dd_server.specs.Answers.{Job};
+ghost use Rattle.dd_server.specs.Session.{Judges, fault_replied};
+ghost use Rattle.dd_server.specs.Judged.{JudgedBy, JudgesCert, Unreads};
+
+use dd_cert::{Cert, CertErr, read_cert};
+use dd_concept::NoMemory;
+use dd_peer::{Pinned, Query};
+use dd_text::Symbols;
+use dd_wire::{BadWorld, Reply, SYMBOLS_FULL, Unread};
+use dd_world::{WorldFault, check_world};
+use serde_json::Value;
+use std::alloc::Global;
+
+/// The reply to a check: whether the world that its certificate is refutes the query under these versions. The symbols
+/// of the certificate are added.
+pub fn judge(
+    alloc: Global,
+    symbols: &mut Symbols,
+    id: u64,
+    pinned: &Pinned,
+    query: &Query,
+    cert: &Value,
+) -> Result<Reply, NoMemory>
+    requires peers { length pinned.now.peers < 2 ^ 32 }
+    requires axioms { All (λ v. length v.axioms < 2 ^ 32) pinned.now.peers }
+    requires rules { All (λ v. length v.into + length v.onto < 2 ^ 32) pinned.now.peers }
+    ensures judges { IfOk result (Judges id (record { pinned = pinned.now; query = query.now }) (cert_in symbols.old (view cert.now))) }
+    ensures grows { Grows symbols.old symbols.new }
+{
+    let _mark = symbols.mark();
+    match read_cert(alloc, symbols, cert) {
+        Ok(cert) => Ok(judge_cert(id, pinned, query, cert)),
+        Err(e) => unread(id, e),
+    }
+}
+
+/// The reply where a certificate was read.
+fn judge_cert(id: u64, pinned: &Pinned, query: &Query, cert: Cert) -> Reply
+    requires peers { length pinned.now.peers < 2 ^ 32 }
+    requires axioms { All (λ v. length v.axioms < 2 ^ 32) pinned.now.peers }
+    requires rules { All (λ v. length v.into + length v.onto < 2 ^ 32) pinned.now.peers }
+    ensures { JudgesCert id (record { pinned = pinned.now; query = query.now }) cert result }
+{
+    match cert {
+        Cert::No(world) => judged(id, check_world(pinned, query, &world)),
+    }
+}
+
+/// The reply where a world was judged.
+fn judged(id: u64, verdict: Result<(), WorldFault>) -> Reply
+    ensures { JudgedBy id verdict result }
+{
+    match verdict {
+        Ok(()) => Reply::Valid { id },
+        Err(fault) => Reply::InvalidWorld {
+            id,
+            fault: told(fault),
+        },
+    }
+}
+
+fn told(fault: WorldFault) -> BadWorld
+    ensures { result ≡ fault_replied fault }
+{
+    match fault {
+        WorldFault::Shape => BadWorld::Shape,
+        WorldFault::Axiom { peer, index } => BadWorld::Axiom { index, peer },
+        WorldFault::Into { peer, index } => BadWorld::Into { index, peer },
+        WorldFault::Onto { peer, index } => BadWorld::Onto { index, peer },
+        WorldFault::NotCounter => BadWorld::NotCounter,
+    }
+}
+
+/// The reply where a certificate cannot be read.
+fn unread(id: u64, e: CertErr) -> Result<Reply, NoMemory>
+    ensures { IfOk result (λ reply. (found : Tried Certified) → Tells e found → Unreads id found reply) }
+{
+    match e {
+        CertErr::Shape { field } => Ok(Reply::Unreadable {
+            id,
+            what: Unread::Field(field),
+        }),
+        CertErr::Index { place, value } => Ok(Reply::Unreadable {
+            id,
+            what: Unread::Place { place, value },
+        }),
+        CertErr::Text { index } => Ok(Reply::Unreadable {
+            id,
+            what: Unread::Text(index),
+        }),
+        CertErr::SymbolsFull => Ok(Reply::Refused {
+            id,
+            code: SYMBOLS_FULL,
+            n: None,
+        }),
+        CertErr::NoMemory => Err(NoMemory),
+    }
+}

@@ -1,0 +1,48 @@
+ghost use Rattle.std.specs.Prelude.{◌≡◌, IfOk, None, Some};
+ghost use Rattle.dd_wire.specs.declared.reply.Reply.TheVariants as reply;
+ghost use Rattle.dd_server.specs.Session.{refused_version};
+ghost use Rattle.dd_server.specs.Turns.{RefusesLine};
+
+use dd_concept::NoMemory;
+use dd_peer::PeerErr;
+use dd_wire::{Reply, SAME_PEER, TOO_MANY_AXIOMS, TOO_MANY_RULES, UNKNOWN_SOURCE, WireErr};
+
+/// The refusal with this code, which brings no number.
+pub fn refused(id: u64, code: u8) -> Reply
+    ensures { result ≡ reply.Refused id code None }
+{
+    Reply::Refused { id, code, n: None }
+}
+
+/// The reply to a line that is no request, for this reason.
+pub fn refused_line(id: u64, e: WireErr) -> Result<Reply, NoMemory>
+    ensures { IfOk result (RefusesLine id e) }
+{
+    match e {
+        WireErr::Code { code, n } => Ok(Reply::Refused { id, code, n }),
+        WireErr::NoMemory => Err(NoMemory),
+    }
+}
+
+/// The reply to a put whose version may not be one.
+pub fn refused_version(id: u64, e: PeerErr) -> Reply
+    ensures { result ≡ reply.Refused id (refused_version e).code (refused_version e).n }
+{
+    match e {
+        PeerErr::SamePeer { rule } => at(id, SAME_PEER, rule),
+        PeerErr::UnknownPeer { rule } => at(id, UNKNOWN_SOURCE, rule),
+        PeerErr::TooManyAxioms { count } => at(id, TOO_MANY_AXIOMS, count),
+        PeerErr::TooManyRules { count, .. } => at(id, TOO_MANY_RULES, count),
+    }
+}
+
+/// The refusal with this code and this number.
+fn at(id: u64, code: u8, n: u32) -> Reply
+    ensures { result ≡ reply.Refused id code (Some n) }
+{
+    Reply::Refused {
+        id,
+        code,
+        n: Some(n as u64),
+    }
+}

@@ -1,0 +1,390 @@
+ghost use Rattle.std.specs.Prelude.{◌≡◌, ◌<◌, ◌≤◌, ◌+◌, ◌^◌, ℕ, ◌∷◌, [], List, All, true, false, IfOk, IfSome, IsSome, IsTrue, length, Ok, slice_get, None, Some, cond};
+ghost use Rattle.std.specs.Option.{ForSome};
+ghost use Rattle.serde_json.specs.View.{view};
+ghost use Rattle.dd_text.specs.Names.{names_a_thing};
+ghost use Rattle.dd_text.specs.Symbols.{SymbolLists, Grows};
+ghost use Rattle.dd_wire.specs.Forms.{written_of};
+ghost use Rattle.dd_wire.specs.Placed.{are_peers};
+ghost use Rattle.dd_wire.specs.Refusal.{Tested};
+ghost use Rattle.dd_server.specs.Above.{is_plain};
+ghost use Rattle.dd_server.specs.History.{empty_version};
+ghost use Rattle.dd_server.specs.IsIndexed.{IsIndexed};
+ghost use Rattle.dd_server.specs.Does.{CutsTo};
+
+use crate::judge::judge;
+use crate::refusal::{refused, refused_line, refused_version};
+use crate::version::{Version, name_of};
+use crate::walk::reaches;
+use dd_concept::{Items, NoMemory};
+use dd_peer::{PeerVersion, Pinned, Query, Shared};
+use dd_text::{Mark, Symbols};
+use dd_wire::{
+    BAD_PIN, Form, NOT_BUILT, Names, Pin, Reply, Request, Text, is_accepted_form, resolve,
+};
+use serde_json::Value;
+use std::alloc::Global;
+
+/// What a session knows between requests: the texts that stand for numbers, the declared peers, and the version of the
+/// only one.
+#[derive(Drop)]
+pub struct Session {
+    pub symbols: Symbols,
+    pub names: Option<Names>,
+    pub put: Option<Version>,
+    ghost only: { ForSome names (λ ns. length ns ≡ 1) },
+}
+
+impl Session {
+    ghost use Rattle.dd_wire.specs.Replies.{IsPrintable};
+    ghost use Rattle.dd_wire.specs.Requests.{IsNumbered};
+    ghost use Rattle.dd_wire.specs.declared.request.Request.TheVariants as request;
+    ghost use Rattle.dd_server.specs.Session.{start, is_open, is_built, names_of, job_at};
+    ghost use Rattle.dd_wire.specs.Accepted.{is_accepted};
+    ghost use Rattle.dd_server.specs.IsIndexed.{IsIndexed};
+    ghost use Rattle.dd_server.specs.SessionState.{state_of};
+    ghost use Rattle.dd_server.specs.History.{pin_of, is_pin, pinned_by, version_at, present_version, last_version};
+    ghost use Rattle.dd_server.specs.Above.{is_plain};
+    ghost use Rattle.dd_server.specs.Verdict.{Decides};
+    ghost use Rattle.dd_server.specs.Does.{Does, Fits, AnsweredForm, AsksNames, PutBy, CheckBy};
+
+    /// The session before its first request.
+    pub fn new(alloc: Global) -> Result<Session, NoMemory>
+        ensures { IfOk result (λ s. state_of s ≡ start) }
+    {
+        Ok(Session {
+            symbols: Symbols::new(alloc)?,
+            names: None,
+            put: None,
+        })
+    }
+
+    /// Whether a form is one that is accepted so far.
+    pub fn is_built(&self, form: &Form) -> bool
+        ensures { result ≡ is_built (state_of self.now) (written_of form.now) }
+    {
+        is_accepted_form(self.names.as_ref(), form) && self.is_open(form)
+    }
+
+    fn is_open(&self, form: &Form) -> bool
+        requires { is_accepted (state_of self.now).peers (written_of form.now) ≡ true }
+        ensures { result ≡ is_open (state_of self.now) (written_of form.now) }
+    {
+        match form {
+            Form::Put { .. } => self.put.is_none(),
+            Form::Ask { .. } => self.is_plain(),
+            Form::Peers(_) => true,
+            Form::Check { .. } => true,
+            Form::Versions => true,
+        }
+    }
+
+    /// Answers a form that is accepted, as the request whose number is `id`. A refused one changes nothing.
+    pub fn accept(&mut self, alloc: Global, id: u64, form: Form) -> Result<Reply, NoMemory>
+        requires { is_built (state_of self.old) (written_of form) ≡ true }
+        ensures answered { IfOk result (AnsweredForm (state_of self.old) id (written_of form) (state_of self.new)) }
+        ensures printable { IfOk result IsPrintable }
+    {
+        let mark = self.symbols.mark();
+        match resolve(alloc, &mut self.symbols, self.names.as_ref(), form) {
+            Ok(request) => self.answer(alloc, id, mark, request),
+            Err(e) => refused_line(id, e),
+        }
+    }
+
+    /// Answers a request, whose symbols came behind the mark.
+    fn answer(
+        &mut self,
+        alloc: Global,
+        id: u64,
+        mark: Mark,
+        request: Request,
+    ) -> Result<Reply, NoMemory>
+        requires fits { Fits (state_of self.old) request }
+        requires numbered { IsNumbered request }
+        requires names { mark.names ≤ length self.old.symbols.names }
+        requires roles { mark.roles ≤ length self.old.symbols.roles }
+        ensures does { IfOk result (λ reply. (before : SymbolLists) → CutsTo mark self.old.symbols before
+            → Does (record (state_of self.old) { symbols = before }) id self.old.symbols request (state_of self.new) reply) }
+        ensures printable { IfOk result IsPrintable }
+    {
+        match request {
+            Request::Peers(names) => self.declare(alloc, id, names),
+            Request::Put { peer, version } => self.put(alloc, id, mark, peer, version),
+            Request::Ask { query, .. } => self.ask(alloc, id, &query),
+            Request::Check { query, pin, cert } => self.check(alloc, id, mark, query, pin, cert),
+            Request::Versions => Ok(refused(id, NOT_BUILT)),
+        }
+    }
+
+    fn declare(&mut self, alloc: Global, id: u64, names: Items<Text>) -> Result<Reply, NoMemory>
+        requires peers { are_peers names ≡ true }
+        requires one { length names ≡ 1 }
+        ensures does { IfOk result (Does (state_of self.old) id self.old.symbols (request.Peers names) (state_of self.new)) }
+        ensures printable { IfOk result IsPrintable }
+    {
+        self.names = Some(Names::new(alloc, &names)?);
+        Ok(Reply::Peers { id, count: 1 })
+    }
+
+    fn put(
+        &mut self,
+        alloc: Global,
+        id: u64,
+        mark: Mark,
+        peer: u32,
+        version: PeerVersion,
+    ) -> Result<Reply, NoMemory>
+        requires fits { Fits (state_of self.old) (request.Put peer version) }
+        requires numbered { IsNumbered (request.Put peer version) }
+        requires names { mark.names ≤ length self.old.symbols.names }
+        requires roles { mark.roles ≤ length self.old.symbols.roles }
+        ensures does { IfOk result (λ reply. (before : SymbolLists) → CutsTo mark self.old.symbols before
+            → Does (record (state_of self.old) { symbols = before }) id self.old.symbols (request.Put peer version) (state_of self.new) reply) }
+        ensures printable { IfOk result IsPrintable }
+    {
+        match version.check(self.peer_count(), peer) {
+            Ok(()) => self.store(alloc, id, peer, version),
+            Err(e) => {
+                self.symbols.back(mark);
+                Ok(refused_version(id, e))
+            }
+        }
+    }
+
+    /// How many peers there are.
+    fn peer_count(&self) -> u32
+        ensures { result ≡ length (names_of (state_of self.now)) }
+    {
+        match &self.names {
+            Some(names) => names.len(),
+            None => 0,
+        }
+    }
+
+    /// Keeps the first version of the only peer.
+    fn store(
+        &mut self,
+        alloc: Global,
+        id: u64,
+        peer: u32,
+        version: PeerVersion,
+    ) -> Result<Reply, NoMemory>
+        requires first { (state_of self.old).history ≡ [] }
+        requires declared { peer < length (names_of (state_of self.old)) }
+        requires numbered { IsNumbered (request.Put peer version) }
+        ensures stores { IfOk result (PutBy None (state_of self.old) id self.old.symbols peer version (state_of self.new)) }
+        ensures printable { IfOk result IsPrintable }
+    {
+        let put = self.name_of(alloc, peer)?;
+        self.put = Some(Version::new(alloc, version)?);
+        Ok(Reply::Put {
+            id,
+            put,
+            version: 1,
+        })
+    }
+
+    /// The name of a peer.
+    fn name_of(&self, alloc: Global, peer: u32) -> Result<Text, NoMemory>
+        requires declared { peer < length (names_of (state_of self.now)) }
+        ensures name { IfOk result (λ name. slice_get (names_of (state_of self.now)) peer ≡ Some name) }
+        ensures named { IfOk result (λ name. IsTrue (names_a_thing name)) }
+    {
+        match &self.names {
+            Some(names) => Items::from_slice(alloc, names.name(peer)),
+            None => unreachable!(),
+        }
+    }
+
+    fn ask(&mut self, alloc: Global, id: u64, query: &Query) -> Result<Reply, NoMemory>
+        requires names { AsksNames query.now }
+        requires plain { is_plain (present_version 0 (state_of self.old).history) ≡ true }
+        requires declared { IsSome self.old.names }
+        ensures does { IfOk result (λ reply. (before : SymbolLists)
+            → Does (record (state_of self.old) { symbols = before }) id self.old.symbols (request.Ask query.now None None) (state_of self.new) reply) }
+        ensures printable { IfOk result IsPrintable }
+    {
+        let yes = self.decide(alloc, query)?;
+        let pin = self.pin(alloc)?;
+        Ok(Reply::Decided { id, yes, pin })
+    }
+
+    /// Whether the right name is above the left one, at the present version.
+    fn decide(&self, alloc: Global, query: &Query) -> Result<bool, NoMemory>
+        requires names { AsksNames query.now }
+        requires plain { is_plain (present_version 0 (state_of self.now).history) ≡ true }
+        ensures { IfOk result (λ verdict. Decides (present_version 0 (state_of self.now).history) query.now verdict) }
+    {
+        let Some(left) = name_of(&query.left) else {
+            unreachable!();
+        };
+        let Some(right) = name_of(&query.right) else {
+            unreachable!();
+        };
+        reaches(alloc, self.above(), left, right)
+    }
+
+    /// The index of the present version.
+    fn above(&self) -> &[Items<u32>]
+        requires { is_plain (present_version 0 (state_of self.now).history) ≡ true }
+        ensures indexed { IsIndexed result.now (present_version 0 (state_of self.now).history) }
+    {
+        match &self.put {
+            Some(version) => rows_of(version),
+            None => &[],
+        }
+    }
+
+    /// The present pin.
+    fn pin(&self, alloc: Global) -> Result<Pin, NoMemory>
+        requires { IsSome self.now.names }
+        ensures { IfOk result (λ pin. pin.versions ≡ pin_of (names_of (state_of self.now)) (state_of self.now).history) }
+    {
+        let mut versions = Items::new(alloc);
+        versions.push(self.last())?;
+        Ok(Pin { versions })
+    }
+
+    /// The number of the last version of the only peer.
+    fn last(&self) -> u32
+        ensures { result ≡ last_version 0 (state_of self.now).history }
+    {
+        if self.put.is_some() { 1 } else { 0 }
+    }
+
+    fn check(
+        &mut self,
+        alloc: Global,
+        id: u64,
+        mark: Mark,
+        query: Query,
+        pin: Pin,
+        cert: Value,
+    ) -> Result<Reply, NoMemory>
+        requires declared { IsSome self.old.names }
+        requires names { mark.names ≤ length self.old.symbols.names }
+        requires roles { mark.roles ≤ length self.old.symbols.roles }
+        ensures does { IfOk result (λ reply. (before : SymbolLists) → CutsTo mark self.old.symbols before
+            → Does (record (state_of self.old) { symbols = before }) id self.old.symbols (request.Check query pin cert) (state_of self.new) reply) }
+        ensures printable { IfOk result IsPrintable }
+    {
+        let reply = self.reply_to_check(alloc, id, &query, &pin, &cert);
+        self.symbols.back(mark);
+        reply
+    }
+
+    /// The reply to a check. The symbols of its certificate are added.
+    fn reply_to_check(
+        &mut self,
+        alloc: Global,
+        id: u64,
+        query: &Query,
+        pin: &Pin,
+        cert: &Value,
+    ) -> Result<Reply, NoMemory>
+        requires declared { IsSome self.old.names }
+        ensures checks { IfOk result (CheckBy (is_pin (names_of (state_of self.old)) pin.now.versions (state_of self.old).history) id
+            (job_at (state_of self.old) pin.now.versions query.now) self.old.symbols (view cert.now)) }
+        ensures printable { IfOk result IsPrintable }
+        ensures grows { Grows self.old.symbols self.new.symbols }
+        ensures same { state_of self.new ≡ record (state_of self.old) { symbols = self.new.symbols } }
+    {
+        if !self.is_pin(pin) {
+            return Ok(refused(id, BAD_PIN));
+        }
+        let pinned = self.pinned(alloc, pin)?;
+        judge(alloc, &mut self.symbols, id, &pinned, query, cert)
+    }
+
+    /// Whether a pin has one number, that of a version of the only peer.
+    fn is_pin(&self, pin: &Pin) -> bool
+        requires { IsSome self.now.names }
+        ensures { result ≡ is_pin (names_of (state_of self.now)) pin.now.versions (state_of self.now).history }
+    {
+        match pin.versions.as_slice() {
+            [number] => *number <= self.last(),
+            _ => false,
+        }
+    }
+
+    /// The versions that a pin names.
+    fn pinned(&self, alloc: Global, pin: &Pin) -> Result<Pinned, NoMemory>
+        requires pin { is_pin (names_of (state_of self.now)) pin.now.versions (state_of self.now).history ≡ true }
+        requires declared { IsSome self.now.names }
+        ensures pinned { IfOk result (λ pinned. pinned ≡ pinned_by pin.now.versions (state_of self.now).history) }
+        ensures one { IfOk result (λ pinned. length pinned.peers ≡ 1) }
+        ensures axioms { IfOk result (λ pinned. All (λ v. length v.axioms < 2 ^ 32) pinned.peers) }
+        ensures rules { IfOk result (λ pinned. All (λ v. length v.into + length v.onto < 2 ^ 32) pinned.peers) }
+    {
+        match pin.versions.as_slice() {
+            [number] => self.pinned_at(alloc, *number),
+            _ => unreachable!(),
+        }
+    }
+
+    /// The version of the only peer with this number, alone.
+    fn pinned_at(&self, alloc: Global, number: u32) -> Result<Pinned, NoMemory>
+        requires { number ≤ last_version 0 (state_of self.now).history }
+        ensures pinned { IfOk result (λ pinned. pinned ≡ pinned_by (number ∷ []) (state_of self.now).history) }
+        ensures one { IfOk result (λ pinned. length pinned.peers ≡ 1) }
+        ensures axioms { IfOk result (λ pinned. All (λ v. length v.axioms < 2 ^ 32) pinned.peers) }
+        ensures rules { IfOk result (λ pinned. All (λ v. length v.into + length v.onto < 2 ^ 32) pinned.peers) }
+    {
+        let mut peers = Items::new(alloc);
+        peers.push(self.version_at(alloc, number)?)?;
+        Ok(Pinned { peers })
+    }
+
+    /// The version of the only peer with this number.
+    fn version_at(&self, alloc: Global, number: u32) -> Result<Shared<PeerVersion>, NoMemory>
+        requires { number ≤ last_version 0 (state_of self.now).history }
+        ensures version { IfOk result (λ v. v ≡ version_at 0 (state_of self.now).history number) }
+        ensures axioms { IfOk result (λ v. length v.axioms < 2 ^ 32) }
+        ensures rules { IfOk result (λ v. length v.into + length v.onto < 2 ^ 32) }
+    {
+        match &self.put {
+            Some(put) => {
+                if number == 0 {
+                    empty_version(alloc)
+                } else {
+                    put.version.share()
+                }
+            }
+            None => empty_version(alloc),
+        }
+    }
+
+    /// Whether the present version has axioms between names alone and no rules.
+    fn is_plain(&self) -> bool
+        ensures { result ≡ is_plain (present_version 0 (state_of self.now).history) }
+    {
+        match &self.put {
+            Some(version) => version.index.is_some(),
+            None => true,
+        }
+    }
+}
+
+fn empty_version(alloc: Global) -> Result<Shared<PeerVersion>, NoMemory>
+    ensures { IfOk result (λ v. v ≡ empty_version) }
+{
+    Shared::new(
+        alloc,
+        PeerVersion {
+            axioms: Items::new(alloc),
+            into: Items::new(alloc),
+            onto: Items::new(alloc),
+        },
+    )
+}
+
+/// The index of a version that has one.
+fn rows_of(version: &Version) -> &[Items<u32>]
+    requires { is_plain version.now.version ≡ true }
+    ensures { IsIndexed result.now version.now.version }
+{
+    match &version.index {
+        Some(index) => index.above.as_slice(),
+        None => unreachable!(),
+    }
+}
