@@ -1,251 +1,98 @@
-use super::{ASK, CHECK_LEFT, PEERS, PUT, gives};
-use std::alloc::Global;
-use std::test::Fail;
+use super::transcript::{Failure, follows};
 
-/// A text so many times inside `(not ` and `)`.
-fn negated(alloc: Global, text: &str, times: u32) -> Result<String, Fail> {
-    let mut whole = String::new(alloc);
-    for _ in 0..times {
-        whole.push_str("(not ")?;
-    }
-    whole.push_str(text)?;
-    for _ in 0..times {
-        whole.push_str(")")?;
-    }
-    Ok(whole)
-}
-
-/// A text with as many nodes twice and one more, so many times over.
-fn doubled(alloc: Global, text: &str, times: u32) -> Result<String, Fail> {
-    let mut whole = String::from_str(alloc, text)?;
-    for _ in 0..times {
-        whole = format!(in alloc; "(and {whole} {whole})")?;
-    }
-    Ok(whole)
-}
-
-/// The text of a concept with 999 nodes and depth 36: 30 nodes, 61, 123, 124, 249, 499, 999.
-fn nodes_999(alloc: Global) -> Result<String, Fail> {
-    let chain = negated(alloc, "A", 29)?;
-    let pairs = doubled(alloc, chain.as_str(), 2)?;
-    let odd = negated(alloc, pairs.as_str(), 1)?;
-    doubled(alloc, odd.as_str(), 3)
-}
-
-/// Whether a session that puts one axiom with these sides gives these replies.
-fn sides_give(alloc: Global, left: &str, right: &str, want: &str) -> Result<bool, Fail> {
-    let put = "{\"op\":\"put\",\"peer\":\"a\",\"axioms\":[\"(implies ";
-    gives(alloc, &[PEERS, put, left, " ", right, ")\"]}"], &[want])
-}
-
-const IS_PUT: &str = "{\"id\":1,\"peers\":1}\n{\"id\":2,\"put\":\"a\",\"version\":1}\n0";
-
-const IS_ABOVE: &str =
-    "{\"id\":1,\"peers\":1}\n{\"code\":11,\"error\":\"concept_limit\",\"id\":2,\"n\":0}\n0";
-
-#[test]
-fn a_concept_has_at_most_64_levels(rt: HostRuntime) -> Result<(), Fail> {
-    for (times, want) in [(63, IS_PUT), (64, IS_ABOVE)] {
-        let deep = negated(rt.alloc(), "A", times)?;
-        assert!(rt; sides_give(rt.alloc(), deep.as_str(), "B", want)?);
-        assert!(rt; sides_give(rt.alloc(), "B", deep.as_str(), want)?);
-    }
-    Ok(())
-}
-
-#[test]
-fn a_concept_has_at_most_1000_nodes(rt: HostRuntime) -> Result<(), Fail> {
-    let wide = nodes_999(rt.alloc())?;
-    for (more, want) in [(1, IS_PUT), (2, IS_ABOVE)] {
-        let side = negated(rt.alloc(), wide.as_str(), more)?;
-        assert!(rt; sides_give(rt.alloc(), side.as_str(), "B", want)?);
-        assert!(rt; sides_give(rt.alloc(), "B", side.as_str(), want)?);
-    }
-    Ok(())
-}
-
-#[test]
-fn a_name_has_at_most_64_bytes(rt: HostRuntime) -> Result<(), Fail> {
-    let longest = "aB0_-.:89012345678901234567890123456789012345678901234567890123";
-    for (last, want) in [
-        ("4", IS_PUT),
-        (
-            "45",
-            "{\"id\":1,\"peers\":1}\n{\"code\":3,\"error\":\"bad_concept\",\"id\":2,\"n\":0}\n0",
-        ),
-    ] {
-        let put = "{\"op\":\"put\",\"peer\":\"a\",\"axioms\":[\"(implies ";
-        assert!(rt;
-            gives(
-                rt.alloc(),
-                &[PEERS, put, longest, last, " top)\"]}"],
-                &[want]
-            )?
-        );
-    }
-    Ok(())
-}
-
-/// Whether a check of these concepts, by an element in A and in no other name, is given this reply.
-fn concepts_give(
-    alloc: Global,
-    left: &str,
-    right: &str,
-    pin: &str,
-    want: &str,
-) -> Result<bool, Fail> {
-    let end =
-        ",\"cert\":{\"format\":1,\"kind\":\"no\",\"links\":[],\"locals\":[{\"names\":[[\"A\",0]],\"roles\":[],\"size\":1}]}}";
-    let check = [
-        PEERS,
-        CHECK_LEFT,
-        left,
-        "\",\"right\":\"",
-        right,
-        "\",\"pin\":",
-        pin,
-        end,
-    ];
-    gives(alloc, &check, &["{\"id\":1,\"peers\":1}\n{", want, "}\n0"])
-}
+/// Requests at the limits, and one above them.
+const LIMITS: &str = r#"
+# A concept has at most 64 levels.
+> {"op":"peers","names":["a"]}
+< {"id":@,"peers":1}
+> {"op":"put","peer":"a","axioms":["(implies ~64~(not ~A~64~)~ B)"]}
+< {"code":11,"error":"concept_limit","id":@,"n":0}
+> {"op":"put","peer":"a","axioms":["(implies B ~64~(not ~A~64~)~)"]}
+< {"code":11,"error":"concept_limit","id":@,"n":0}
+> {"op":"put","peer":"a","axioms":["(implies ~63~(not ~A~63~)~ ~63~(not ~A~63~)~)"]}
+< {"id":@,"put":"a","version":1}
+---
+# A concept has at most 1,000 nodes: 30 times a conjunction with 32 nodes on its left, and 10 or 11 nodes at the end.
+> {"op":"peers","names":["a"]}
+< {"id":@,"peers":1}
+> {"op":"put","peer":"a","axioms":["(implies ~30~(and ^31^(not ^A^31^)^ ~^10^(not ^A^10^)^~30~)~ B)"]}
+< {"code":11,"error":"concept_limit","id":@,"n":0}
+> {"op":"put","peer":"a","axioms":["(implies B ~30~(and ^31^(not ^A^31^)^ ~^10^(not ^A^10^)^~30~)~)"]}
+< {"code":11,"error":"concept_limit","id":@,"n":0}
+> {"op":"put","peer":"a","axioms":["(implies ~30~(and ^31^(not ^A^31^)^ ~^9^(not ^A^9^)^~30~)~ ~30~(and ^31^(not ^A^31^)^ ~^9^(not ^A^9^)^~30~)~)"]}
+< {"id":@,"put":"a","version":1}
+---
+# A name has at most 64 bytes.
+> {"op":"peers","names":["a"]}
+< {"id":@,"peers":1}
+> {"op":"put","peer":"a","axioms":["(implies aB0_-.:8901234567890123456789012345678901234567890123456789012345 top)"]}
+< {"code":3,"error":"bad_concept","id":@,"n":0}
+> {"op":"put","peer":"a","axioms":["(implies aB0_-.:890123456789012345678901234567890123456789012345678901234 top)"]}
+< {"id":@,"put":"a","version":1}
+---
+# The texts of a check come before its pin.
+> {"op":"peers","names":["a"]}
+< {"id":@,"peers":1}
+> {"op":"check","peer":"a","left":"A","right":"~63~(not ~A~63~)~","pin":[0],"cert":{"format":1,"kind":"no","links":[],"locals":[{"names":[["A",0]],"roles":[],"size":1}]}}
+< {"check":"valid","id":@}
+> {"op":"check","peer":"a","left":"A","right":"~63~(not ~A~63~)~","pin":[1],"cert":{"format":1,"kind":"no","links":[],"locals":[{"names":[["A",0]],"roles":[],"size":1}]}}
+< {"code":18,"error":"bad_pin","id":@}
+> {"op":"check","peer":"a","left":"A","right":"~64~(not ~A~64~)~","pin":[1],"cert":{"format":1,"kind":"no","links":[],"locals":[{"names":[["A",0]],"roles":[],"size":1}]}}
+< {"code":11,"error":"concept_limit","id":@,"n":1}
+> {"op":"check","peer":"a","left":"(","right":"~63~(not ~A~63~)~","pin":[0],"cert":{"format":1,"kind":"no","links":[],"locals":[{"names":[["A",0]],"roles":[],"size":1}]}}
+< {"code":3,"error":"bad_concept","id":@,"n":0}
+> {"op":"check","peer":"a","left":"(not A","right":"~64~(not ~A~64~)~","pin":[1],"cert":{"format":1,"kind":"no","links":[],"locals":[{"names":[["A",0]],"roles":[],"size":1}]}}
+< {"code":3,"error":"bad_concept","id":@,"n":0}
+---
+# A text of any depth is read, and a later text outside the grammar comes before it.
+> {"op":"peers","names":["a"]}
+< {"id":@,"peers":1}
+> {"op":"check","peer":"a","left":"~100000~(not ~A~100000~)~","right":"B","pin":[0],"cert":{}}
+< {"code":11,"error":"concept_limit","id":@,"n":0}
+> {"op":"check","peer":"a","left":"~100000~(not ~A~100000~)~","right":"(","pin":[0],"cert":{}}
+< {"code":3,"error":"bad_concept","id":@,"n":1}
+# Concepts are not asked about yet, however deep they are.
+> {"op":"ask","peer":"a","left":"(not A)","right":"B"}
+< {"code":17,"error":"not_built","id":@}
+> {"op":"ask","peer":"a","left":"~63~(not ~A~63~)~","right":"B"}
+< {"code":17,"error":"not_built","id":@}
+> {"op":"ask","peer":"a","left":"~64~(not ~A~64~)~","right":"B"}
+< {"code":17,"error":"not_built","id":@}
+---
+# An axiom outside the grammar comes before one that is too deep, and that before the number of axioms, which is at most 2,000.
+> {"op":"peers","names":["a"]}
+< {"id":@,"peers":1}
+> {"op":"put","peer":"a","axioms":["(implies ~64~(not ~A~64~)~ B)"~1999~,"(implies A C)"~,"(implies B)"]}
+< {"code":3,"error":"bad_concept","id":@,"n":2000}
+> {"op":"put","peer":"a","axioms":["(implies ~64~(not ~A~64~)~ B)"~1999~,"(implies A C)"~,"(implies B C)"]}
+< {"code":11,"error":"concept_limit","id":@,"n":0}
+> {"op":"put","peer":"a","axioms":["(implies X B)"~1999~,"(implies A C)"~,"(implies B C)"]}
+< {"code":9,"error":"too_many_axioms","id":@,"n":2001}
+> {"op":"put","peer":"a","axioms":["(implies A B)"~1998~,"(implies A C)"~,"(implies B D)"]}
+< {"id":@,"put":"a","version":1}
+> {"op":"ask","peer":"a","left":"A","right":"D"}
+< {"id":@,"pin":[1],"verdict":"yes"}
+---
+# A check with A, C and 65,535 further names has one too many, and no check leaves its names.
+> {"op":"peers","names":["a"]}
+< {"id":@,"peers":1}
+> {"op":"check","peer":"a","left":"A","right":"C","pin":[0],"cert":{"format":1,"kind":"no","links":[],"locals":[{"roles":[],"size":1,"names":[["A",0]~65535~,["n#",0]~]}]}}
+< {"code":12,"error":"symbols_full","id":@}
+> {"op":"check","peer":"a","left":"A","right":"C","pin":[0],"cert":{"format":1,"kind":"no","links":[],"locals":[{"roles":[],"size":1,"names":[["A",0]~65534~,["m#",0]~]}]}}
+< {"check":"valid","id":@}
+> {"op":"ask","peer":"a","left":"X","right":"Y"}
+< {"id":@,"pin":[0],"verdict":"no"}
+---
+# A line has at most 1,048,576 bytes, and one of more is refused alone.
+> ~1048576~ ~
+< {"code":1,"error":"bad_json","id":@}
+> ~1048577~ ~
+< {"code":16,"error":"line_too_long","id":@}
+> {"op":"peers","names":["a"]}
+< {"id":@,"peers":1}
+"#;
 
 #[test]
-fn the_texts_of_a_check_come_before_its_pin(rt: HostRuntime) -> Result<(), Fail> {
-    for (left, times, pin, want) in [
-        ("A", 63, "[0]", r#""check":"valid","id":2"#),
-        ("A", 63, "[1]", r#""code":18,"error":"bad_pin","id":2"#),
-        (
-            "A",
-            64,
-            "[1]",
-            r#""code":11,"error":"concept_limit","id":2,"n":1"#,
-        ),
-        (
-            "(",
-            63,
-            "[0]",
-            r#""code":3,"error":"bad_concept","id":2,"n":0"#,
-        ),
-        (
-            "(not A",
-            64,
-            "[1]",
-            r#""code":3,"error":"bad_concept","id":2,"n":0"#,
-        ),
-    ] {
-        let right = negated(rt.alloc(), "A", times)?;
-        assert!(rt; concepts_give(rt.alloc(), left, right.as_str(), pin, want)?);
-    }
-    Ok(())
-}
-
-#[test]
-fn a_text_of_any_depth_is_read(rt: HostRuntime) -> Result<(), Fail> {
-    let deep = negated(rt.alloc(), "A", 100_000)?;
-    for (right, want) in [
-        ("B", r#""code":11,"error":"concept_limit","id":2,"n":0"#),
-        ("(", r#""code":3,"error":"bad_concept","id":2,"n":1"#),
-    ] {
-        assert!(rt; concepts_give(rt.alloc(), deep.as_str(), right, "[0]", want)?);
-    }
-    Ok(())
-}
-
-#[test]
-fn a_deep_concept_is_not_asked_about(rt: HostRuntime) -> Result<(), Fail> {
-    for times in [1, 63, 64] {
-        let left = negated(rt.alloc(), "A", times)?;
-        let ask = [
-            PEERS,
-            "{\"op\":\"ask\",\"peer\":\"a\",\"left\":\"",
-            left.as_str(),
-            "\",\"right\":\"B\"}",
-        ];
-        let told = "{\"id\":1,\"peers\":1}\n{\"code\":17,\"error\":\"not_built\",\"id\":2}\n0";
-        assert!(rt; gives(rt.alloc(), &ask, &[told])?);
-    }
-    Ok(())
-}
-
-/// The text of an axiom between A and C, with a comma before it, so many times.
-fn commons(alloc: Global, count: u32) -> Result<String, Fail> {
-    let mut texts = String::new(alloc);
-    for _ in 0..count {
-        texts.push_str(",\"(implies A C)\"")?;
-    }
-    Ok(texts)
-}
-
-const PUT_FRONT: &str = "{\"op\":\"put\",\"peer\":\"a\",\"axioms\":[\"(implies ";
-
-/// Whether this reply is given to a put of 2,001 axioms, the first with this left side and the last with this text, before
-/// the first put that is accepted.
-fn many_give(alloc: Global, left: &str, last: &str, want: &str) -> Result<bool, Fail> {
-    let many = commons(alloc, 1999)?;
-    let lines = [
-        PEERS,
-        PUT_FRONT,
-        left,
-        " B)\"",
-        many.as_str(),
-        ",\"",
-        last,
-        "\"]}\n",
-        PUT,
-        ASK,
-    ];
-    let told = [
-        "{\"id\":1,\"peers\":1}\n{",
-        want,
-        "}\n{\"id\":3,\"put\":\"a\",\"version\":1}\n{\"id\":4,\"pin\":[1],\"verdict\":\"yes\"}\n0",
-    ];
-    gives(alloc, &lines, &told)
-}
-
-#[test]
-fn an_axiom_outside_comes_before_one_above_and_that_before_their_number(
-    rt: HostRuntime,
-) -> Result<(), Fail> {
-    for (times, last, want) in [
-        (
-            0,
-            "(implies B C)",
-            r#""code":9,"error":"too_many_axioms","id":2,"n":2001"#,
-        ),
-        (
-            64,
-            "(implies B C)",
-            r#""code":11,"error":"concept_limit","id":2,"n":0"#,
-        ),
-        (
-            64,
-            "(implies B)",
-            r#""code":3,"error":"bad_concept","id":2,"n":2000"#,
-        ),
-    ] {
-        let left = negated(rt.alloc(), "A", times)?;
-        assert!(rt; many_give(rt.alloc(), left.as_str(), last, want)?);
-    }
-    Ok(())
-}
-
-#[test]
-fn a_version_has_at_most_2000_axioms(rt: HostRuntime) -> Result<(), Fail> {
-    let many = commons(rt.alloc(), 1999)?;
-    let most = commons(rt.alloc(), 1998)?;
-    let lines = [
-        PEERS,
-        PUT_FRONT,
-        "X B)\"",
-        many.as_str(),
-        ",\"(implies B C)\"]}\n",
-        PUT_FRONT,
-        "A B)\"",
-        most.as_str(),
-        ",\"(implies B D)\"]}\n{\"op\":\"ask\",\"peer\":\"a\",\"left\":\"A\",\"right\":\"D\"}",
-    ];
-    let told =
-        "{\"id\":1,\"peers\":1}\n{\"code\":9,\"error\":\"too_many_axioms\",\"id\":2,\"n\":2001}\n{\"id\":3,\"put\":\"a\",\"version\":1}\n{\"id\":4,\"pin\":[1],\"verdict\":\"yes\"}\n0";
-    assert!(rt; gives(rt.alloc(), &lines, &[told])?);
-    Ok(())
+fn what_is_above_a_limit_is_refused(rt: HostRuntime) -> Result<(), Failure> {
+    follows(rt.alloc(), LIMITS)
 }
