@@ -12,14 +12,14 @@ use Rattle.dd_text.specs.Text.{concept_of, names_in, roles_in, with_term}
 use Rattle.dd_text.specs.declared.grammar.Sign.{Sign}
 use Rattle.dd_text.specs.declared.grammar.Sign.TheVariants as sign
 use Rattle.dd_text.specs.Automaton.{signs_of}
-use Rattle.dd_text.specs.Build.{built, is_sign, onto, paired, wrapped, with_sign, with_signs}
+use Rattle.dd_text.specs.Build.{built, is_sign, paired, wrapped, with_sign, with_signs}
 use Rattle.dd_text.proofs.Numbering.{Appends-refl, Appends-trans, Appends-with_text, Appends-with_texts, length-Appends}
 use Rattle.dd_text.proofs.Reading.{both_of, left_of, right_of}
 
--- one node more, at the end
-pub built-push : (s : SymbolLists) (xs : List Sign) (x : Sign) (pile : List Concept) → built s (xs ++ x ∷ []) pile ≡ built s xs (onto s x pile)
-built-push s [] x pile = refl
-built-push s (y ∷ ys) x pile = ap (onto s y) (built-push s ys x pile)
+-- the first concept, or this one where there is none
+abbrev pub first_of : Concept → List Concept → Concept
+first_of d [] = d
+first_of d (c ∷ cs) = c
 
 pub built-term : (s : SymbolLists) (t : Term) (xs : List Sign) (pile : List Concept) → built s (signs_of t ++ xs) pile ≡ concept_of s t ∷ built s xs pile
 built-term s top xs pile = refl

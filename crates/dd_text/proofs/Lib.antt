@@ -5,6 +5,7 @@ pub mod Decided
 pub mod Inverse
 pub mod Numbering
 pub mod PartReads
+pub mod Printing
 pub mod Reading
 pub mod Restoring
 pub mod RoundTrip

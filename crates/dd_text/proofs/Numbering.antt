@@ -1,6 +1,6 @@
 -- Texts and the numbers that a list of texts gives them.
 use Rattle.std.proofs.Common.{◌≡◌, ℕ, zero, suc, ◌+◌, ◌<◌, ◌≤◌, Bool, true, false, not, cond, ◌||◌, List, [], ◌∷◌, ◌++◌, length, map, take, refl, sym, ap, ◌∙◌, subst, arith, append_assoc, length-append}
-use Rattle.std.specs.Prelude.{Some, None, slice_get, position, nat_lt, ◌&&◌, ◌==◌}
+use Rattle.std.specs.Prelude.{◌↔◌, Some, None, slice_get, position, nat_lt, ◌&&◌, ◌==◌}
 use Rattle.std.specs.List.{list_any, position_or_len, AllByRecursion, IsDistinct}
 use Rattle.std.specs.Str.{bytes_eq}
 use Rattle.std.proofs.lemmas.Slice.Eq.{bytes_eq-Decides}
@@ -159,6 +159,13 @@ lacks_room-present count xs t h =
 
 pub lacks_room-new : (count : ℕ) (xs : List (List ℕ)) (t : List ℕ) → count ≡ most_symbols → has_text xs t ≡ false → lacks_room count xs t ≡ true
 lacks_room-new count xs t e h = ap (λ n. (n == most_symbols) && not (has_text xs t)) e ∙ ap not h
+
+-- that there is no room, of the symbols and of what they are kept in
+pub told-named : {P : Type 0} (t : List ℕ) (n m : ℕ) (xs ys : List (List ℕ)) → names_a_thing t ≡ true → n ≡ m → xs ≡ ys → P ↔ (lacks_room n xs t ≡ true) → P ↔ (names_a_thing t && lacks_room m ys t ≡ true)
+told-named t n m xs ys named count texts told =
+    let same : names_a_thing t && lacks_room m ys t ≡ lacks_room n xs t =
+    ap (λ b. b && lacks_room m ys t) named ∙ ap (λ k. lacks_room k ys t) (sym count) ∙ ap (λ l. lacks_room n l t) (sym texts) in
+    (λ p. same ∙ told.0 p, λ h. told.1 (sym same ∙ h))
 
 -- names stay names where the texts are cut, and where a name is added
 are_names-append : (xs ys : List (List ℕ)) → are_names (xs ++ ys) ≡ are_names xs && are_names ys

@@ -4,12 +4,13 @@ ghost use Rattle.dd_text.specs.Grammar.{Term};
 ghost use Rattle.dd_text.specs.Symbols.{Grows, symbol_count};
 ghost use Rattle.dd_text.specs.Text.{axiom_of, concept_of, with_term};
 ghost use Rattle.dd_text.specs.Automaton.{signs_of};
-ghost use Rattle.dd_text.specs.Build.{AreTermSigns, PopsFew, built, is_sign, onto, with_sign, with_signs};
+ghost use Rattle.dd_text.specs.Build.{AreTermSigns, PopsFew, built, is_sign, onto, paired, with_sign, with_signs, wrapped};
 
 use crate::grammar::Sign;
 use crate::symbols::{NameErr, Symbols};
-use dd_concept::{Axiom, Concept, Items, NoMemory};
-use sqlite_items::Boxed;
+use dd_concept::{
+    Axiom, Concept, Items, NoMemory, conjunction, disjunction, existential, negation, universal,
+};
 use std::alloc::Global;
 use std::marker::Model;
 
@@ -68,6 +69,52 @@ impl Pile {
         let second = self.pop()?;
         Some((first, second))
     }
+
+    // This and the next four put a form in the place of its parts, or nothing where parts are missing.
+    fn negate(&mut self, alloc: Global) -> Result<(), NoMemory>
+        ensures { OnOk result (self.new ≡ wrapped Concept.Not self.old) }
+    {
+        match self.pop() {
+            Some(c) => self.push(negation(alloc, c)?),
+            None => Ok(()),
+        }
+    }
+
+    fn conjoin(&mut self, alloc: Global) -> Result<(), NoMemory>
+        ensures { OnOk result (self.new ≡ paired Concept.And self.old) }
+    {
+        match self.pop_two() {
+            Some((c, d)) => self.push(conjunction(alloc, c, d)?),
+            None => Ok(()),
+        }
+    }
+
+    fn disjoin(&mut self, alloc: Global) -> Result<(), NoMemory>
+        ensures { OnOk result (self.new ≡ paired Concept.Or self.old) }
+    {
+        match self.pop_two() {
+            Some((c, d)) => self.push(disjunction(alloc, c, d)?),
+            None => Ok(()),
+        }
+    }
+
+    fn restrict_some(&mut self, alloc: Global, role: u32) -> Result<(), NoMemory>
+        ensures { OnOk result (self.new ≡ wrapped (Concept.HasSome role) self.old) }
+    {
+        match self.pop() {
+            Some(c) => self.push(existential(alloc, role, c)?),
+            None => Ok(()),
+        }
+    }
+
+    fn restrict_all(&mut self, alloc: Global, role: u32) -> Result<(), NoMemory>
+        ensures { OnOk result (self.new ≡ wrapped (Concept.HasAll role) self.old) }
+    {
+        match self.pop() {
+            Some(c) => self.push(universal(alloc, role, c)?),
+            None => Ok(()),
+        }
+    }
 }
 
 fn add_sign(alloc: Global, symbols: &mut Symbols, sign: &Sign) -> Result<(), BuildErr>
@@ -106,53 +153,30 @@ fn add_signs(alloc: Global, symbols: &mut Symbols, signs: &[Sign]) -> Result<(),
     Ok(())
 }
 
-fn put(alloc: Global, symbols: &Symbols, pile: &mut Pile, sign: Sign) -> Result<(), NoMemory>
-    ensures { OnOk result (pile.new ≡ onto symbols.now sign pile.old) }
+fn put(alloc: Global, symbols: &Symbols, pile: &mut Pile, sign: &Sign) -> Result<(), NoMemory>
+    ensures { OnOk result (pile.new ≡ onto symbols.now sign.now pile.old) }
 {
     match sign {
         Sign::Top => pile.push(Concept::Top),
         Sign::Bottom => pile.push(Concept::Bottom),
         Sign::Name(a) => pile.push(Concept::Name(symbols.name_number(a.as_slice()))),
-        Sign::Not => {
-            let Some(c) = pile.pop() else {
-                return Ok(());
-            };
-            pile.push(Concept::Not(Boxed::new(alloc, c)?))
-        }
-        Sign::And => {
-            let Some((c, d)) = pile.pop_two() else {
-                return Ok(());
-            };
-            pile.push(Concept::And(Boxed::new(alloc, c)?, Boxed::new(alloc, d)?))
-        }
-        Sign::Or => {
-            let Some((c, d)) = pile.pop_two() else {
-                return Ok(());
-            };
-            pile.push(Concept::Or(Boxed::new(alloc, c)?, Boxed::new(alloc, d)?))
-        }
-        Sign::HasSome(r) => {
-            let Some(c) = pile.pop() else {
-                return Ok(());
-            };
-            pile.push(Concept::HasSome(symbols.role_number(r.as_slice()), Boxed::new(alloc, c)?))
-        }
-        Sign::HasAll(r) => {
-            let Some(c) = pile.pop() else {
-                return Ok(());
-            };
-            pile.push(Concept::HasAll(symbols.role_number(r.as_slice()), Boxed::new(alloc, c)?))
-        }
+        Sign::Not => pile.negate(alloc),
+        Sign::And => pile.conjoin(alloc),
+        Sign::Or => pile.disjoin(alloc),
+        Sign::HasSome(r) => pile.restrict_some(alloc, symbols.role_number(r.as_slice())),
+        Sign::HasAll(r) => pile.restrict_all(alloc, symbols.role_number(r.as_slice())),
     }
 }
 
-fn build(alloc: Global, symbols: &Symbols, signs: Items<Sign>) -> Result<Pile, NoMemory>
-    ensures { IfOk result (λ pile. pile ≡ built symbols.now signs []) }
+// The parts of a node stand after it, so the last node comes first.
+fn build(alloc: Global, symbols: &Symbols, signs: &[Sign]) -> Result<Pile, NoMemory>
+    ensures { IfOk result (λ pile. pile ≡ built symbols.now signs.now []) }
 {
-    let mut left = signs.into_vec();
     let mut pile = Pile::new(alloc);
-    while let Some(sign) = left.pop() {
-        put(alloc, symbols, &mut pile, sign)?;
+    let mut left = signs.len();
+    while left > 0 {
+        left -= 1;
+        put(alloc, symbols, &mut pile, &signs[left])?;
     }
     Ok(pile)
 }
@@ -171,10 +195,11 @@ pub fn build_concept(
     ensures full { result ≡ Err BuildErr.SymbolsFull → (t : Term) → signs ≡ signs_of t → 65536 < symbol_count (with_term symbols.old t) }
     ensures grows { Grows symbols.old symbols.new }
 {
-    if let Err(e) = add_signs(alloc, symbols, signs.as_slice()) {
+    let nodes = signs.as_slice();
+    if let Err(e) = add_signs(alloc, symbols, nodes) {
         return Err(e);
     }
-    let Ok(mut pile) = build(alloc, symbols, signs) else {
+    let Ok(mut pile) = build(alloc, symbols, nodes) else {
         return Err(BuildErr::NoMemory);
     };
     match pile.pop() {

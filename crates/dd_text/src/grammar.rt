@@ -3,7 +3,7 @@ ghost use Rattle.dd_text.specs.Names.{begins_with_letter};
 ghost use Rattle.dd_text.specs.Automaton.{Scans, Steps, after, after_keyword, continues, continues_keyword, extends, finished, is_leaf, is_whole, leaf_sign, role_sign, role_step, start, step, step_in, with_byte, with_form, with_leaf};
 ghost use Rattle.dd_text.specs.declared.grammar.Mode.TheVariants as mode;
 
-use crate::names::{is_name, is_name_byte};
+use crate::names::{ALL, AND, BOTTOM, NOT, OR, SOME, TOP, is_name, is_name_byte, is_word};
 use dd_concept::{Items, NoMemory};
 use std::alloc::Global;
 use std::marker::Model;
@@ -138,26 +138,26 @@ fn may_extend(word: &[u8], byte: u8) -> bool
 fn may_extend_keyword(word: &[u8], byte: u8) -> bool
     ensures { result ≡ continues_keyword word.now byte }
 {
-    goes_on(b"not", word, byte)
-        || goes_on(b"and", word, byte)
-        || goes_on(b"or", word, byte)
-        || goes_on(b"some", word, byte)
-        || goes_on(b"all", word, byte)
+    goes_on(NOT, word, byte)
+        || goes_on(AND, word, byte)
+        || goes_on(OR, word, byte)
+        || goes_on(SOME, word, byte)
+        || goes_on(ALL, word, byte)
 }
 
 fn is_concept_word(word: &[u8]) -> bool
     ensures { result ≡ is_leaf word.now }
 {
-    word == b"top".as_slice() || word == b"bottom".as_slice() || is_name(word)
+    is_word(word, TOP) || is_word(word, BOTTOM) || is_name(word)
 }
 
 fn sign_of_word(word: Items<u8>) -> Sign
     ensures { result ≡ leaf_sign word }
 {
-    if word.as_slice() == b"top".as_slice() {
+    if is_word(word.as_slice(), TOP) {
         return Sign::Top;
     }
-    if word.as_slice() == b"bottom".as_slice() {
+    if is_word(word.as_slice(), BOTTOM) {
         return Sign::Bottom;
     }
     Sign::Name(word)
@@ -212,15 +212,21 @@ impl Scan {
             return Ok(false);
         };
         match frame {
-            Frame::First if byte == b' ' => {
-                self.stack.push(Frame::Last)?;
-                self.mode = Mode::Concept;
-                Ok(true)
-            }
-            Frame::Last if byte == b')' => Ok(true),
-            frame => {
+            Frame::First => {
+                if byte == b' ' {
+                    self.stack.push(Frame::Last)?;
+                    self.mode = Mode::Concept;
+                    return Ok(true);
+                }
                 self.stack.push(frame)?;
-                Ok(false)
+                return Ok(false);
+            }
+            Frame::Last => {
+                if byte == b')' {
+                    return Ok(true);
+                }
+                self.stack.push(frame)?;
+                return Ok(false);
             }
         }
     }
@@ -229,15 +235,28 @@ impl Scan {
     fn end_keyword(&mut self, alloc: Global) -> Result<bool, NoMemory>
         ensures { IfOk result (Steps (after_keyword self.old) self.old self.new) }
     {
-        match self.word.as_slice() {
-            b"not" => self.begin_form(alloc, Sign::Not, Frame::Last)?,
-            b"and" => self.begin_form(alloc, Sign::And, Frame::First)?,
-            b"or" => self.begin_form(alloc, Sign::Or, Frame::First)?,
-            b"some" => self.begin_role(alloc, Mode::SomeRole),
-            b"all" => self.begin_role(alloc, Mode::AllRole),
-            _ => return Ok(false),
+        let word = self.word.as_slice();
+        if is_word(word, NOT) {
+            self.begin_form(alloc, Sign::Not, Frame::Last)?;
+            return Ok(true);
         }
-        Ok(true)
+        if is_word(word, AND) {
+            self.begin_form(alloc, Sign::And, Frame::First)?;
+            return Ok(true);
+        }
+        if is_word(word, OR) {
+            self.begin_form(alloc, Sign::Or, Frame::First)?;
+            return Ok(true);
+        }
+        if is_word(word, SOME) {
+            self.begin_role(alloc, Mode::SomeRole);
+            return Ok(true);
+        }
+        if is_word(word, ALL) {
+            self.begin_role(alloc, Mode::AllRole);
+            return Ok(true);
+        }
+        Ok(false)
     }
 
     fn begin_role(&mut self, alloc: Global, mode: Mode)

@@ -12,13 +12,13 @@ fn write_role(
     out: &mut Vec<u8>,
 ) -> Result<(), NoMemory>
     requires { role < length symbols.now.roles }
-    ensures { OnOk result (out.new.items ≡ out.old.items ++ opening.now ++ text_at symbols.now.roles role ++ 32 ∷ []) }
+    ensures { OnOk result (out.new.items ≡ out.old.items ++ opening.now ++ text_at symbols.now.roles role) }
 {
     out.extend_from_slice(opening)?;
-    out.extend_from_slice(symbols.role(role))?;
-    out.extend_from_slice(b" ")
+    out.extend_from_slice(symbols.role(role))
 }
 
+#[cycle(write)]
 fn write_concept(symbols: &Symbols, c: &Concept, out: &mut Vec<u8>) -> Result<(), NoMemory>
     requires { IsTrue (has_symbols symbols.now c.now) }
     ensures { OnOk result (out.new.items ≡ out.old.items ++ concept_text symbols.now c.now) }
@@ -27,36 +27,41 @@ fn write_concept(symbols: &Symbols, c: &Concept, out: &mut Vec<u8>) -> Result<()
         Concept::Top => out.extend_from_slice(b"top"),
         Concept::Bottom => out.extend_from_slice(b"bottom"),
         Concept::Name(a) => out.extend_from_slice(symbols.name(*a)),
-        Concept::Not(d) => {
-            out.extend_from_slice(b"(not ")?;
-            write_concept(symbols, d.get(), out)?;
-            out.extend_from_slice(b")")
-        }
+        Concept::Not(d) => write_part(symbols, b"(not ", d.get(), b")", out),
         Concept::And(d, e) => {
-            out.extend_from_slice(b"(and ")?;
-            write_concept(symbols, d.get(), out)?;
-            out.extend_from_slice(b" ")?;
-            write_concept(symbols, e.get(), out)?;
-            out.extend_from_slice(b")")
+            write_part(symbols, b"(and ", d.get(), b" ", out)?;
+            write_part(symbols, b"", e.get(), b")", out)
         }
         Concept::Or(d, e) => {
-            out.extend_from_slice(b"(or ")?;
-            write_concept(symbols, d.get(), out)?;
-            out.extend_from_slice(b" ")?;
-            write_concept(symbols, e.get(), out)?;
-            out.extend_from_slice(b")")
+            write_part(symbols, b"(or ", d.get(), b" ", out)?;
+            write_part(symbols, b"", e.get(), b")", out)
         }
         Concept::HasSome(r, d) => {
             write_role(symbols, b"(some ", *r, out)?;
-            write_concept(symbols, d.get(), out)?;
-            out.extend_from_slice(b")")
+            write_part(symbols, b" ", d.get(), b")", out)
         }
         Concept::HasAll(r, d) => {
             write_role(symbols, b"(all ", *r, out)?;
-            write_concept(symbols, d.get(), out)?;
-            out.extend_from_slice(b")")
+            write_part(symbols, b" ", d.get(), b")", out)
         }
     }
+}
+
+// A part of a form, with what stands before and after it.
+#[cycle(write)]
+fn write_part(
+    symbols: &Symbols,
+    before: &[u8],
+    c: &Concept,
+    after: &[u8],
+    out: &mut Vec<u8>,
+) -> Result<(), NoMemory>
+    requires { IsTrue (has_symbols symbols.now c.now) }
+    ensures { OnOk result (out.new.items ≡ out.old.items ++ before.now ++ concept_text symbols.now c.now ++ after.now) }
+{
+    out.extend_from_slice(before)?;
+    write_concept(symbols, c, out)?;
+    out.extend_from_slice(after)
 }
 
 /// The one text of a concept.
@@ -76,10 +81,7 @@ pub fn print_axiom(alloc: Global, symbols: &Symbols, a: &Axiom) -> Result<Vec<u8
     ensures { IfOk result (λ text. text.items ≡ axiom_text_of symbols.now a.now) }
 {
     let mut text = Vec::new(alloc);
-    text.extend_from_slice(b"(implies ")?;
-    write_concept(symbols, &a.left, &mut text)?;
-    text.extend_from_slice(b" ")?;
-    write_concept(symbols, &a.right, &mut text)?;
-    text.extend_from_slice(b")")?;
+    write_part(symbols, b"(implies ", &a.left, b" ", &mut text)?;
+    write_part(symbols, b"", &a.right, b")", &mut text)?;
     Ok(text)
 }

@@ -14,7 +14,7 @@ use thiserror::Error;
 const MOST_SYMBOLS: usize = 65_536;
 
 /// The names and the roles that have occurred, each with its number: its position among its kind, from 0.
-#[derive(Debug, Drop)]
+#[derive(Drop)]
 pub struct Symbols {
     names: IndexSet<Vec<u8>>,
     roles: IndexSet<Vec<u8>>,

@@ -1,10 +1,17 @@
-use Rattle.std.proofs.Common.{◌∙◌, ap, sym}
-use Rattle.dd_text.specs.Build.{built}
-use Rattle.dd_text.proofs.Building.{built-push}
+use Rattle.std.proofs.Common.{◌≡◌, ◌∙◌, ◌+◌, ◌-◌, [], ap, sym, arith, drop}
+use Rattle.dd_text.specs.Build.{built, onto}
+use Rattle.dd_text.proofs.Building.{drop-next}
 use Rattle.dd_text.proofs.build.build.Goals as goal
 
-pub loop-sign-preserved : goal.loop-sign-preserved
-loop-sign-preserved c =
+pub loop-left-preserved : goal.loop-left-preserved
+loop-left-preserved c =
     let s = c.args.symbols.now in
-    c.loop-sign.invariant ∙ ap (λ l. built s l c.loop-sign.pile) c.in-Some.ensures.items
-    ∙ built-push s c.pop.new.self.items c.in-Some.sign c.loop-sign.pile ∙ ap (built s c.pop.new.self.items) (sym c.in_ok-put.ensures)
+    let signs = c.args.signs.now in
+    let n = c.loop-left.left in
+    let x = c.index-signs-left.result in
+    let again : n ≡ n - 1 + 1 = omega arith in
+    record {
+      within = omega (arith, c.loop-left.invariant.within);
+      pile = c.in_ok-put.ensures ∙ ap (onto s x) (c.loop-left.invariant.pile ∙ ap (λ k. built s (drop k signs) []) again)
+          ∙ ap (λ l. built s l []) (sym (drop-next signs (n - 1) x (omega (arith, c.loop-left.invariant.within)) c.index-signs-left.is));
+    }

@@ -1,9 +1,12 @@
-use Rattle.std.proofs.Common.{◌≡◌, [], vec_len}
+use Rattle.std.proofs.Common.{◌≡◌, ◌≤◌, [], drop, length}
 use Rattle.dd_text.specs.Build.{built}
 use Rattle.dd_text.proofs.build.build.Given as goal
 
-abbrev pub invariant-loop-sign : goal.invariant-loop-sign
-invariant-loop-sign l = built l.symbols l.initial.left.items [] ≡ built l.symbols l.left.items l.pile
+abbrev pub invariant-loop-left : goal.invariant-loop-left
+invariant-loop-left l = record {
+  within : l.left ≤ length l.signs;
+  pile : l.pile ≡ built l.symbols (drop l.left l.signs) [];
+}
 
-abbrev pub decreases-loop-sign : goal.decreases-loop-sign
-decreases-loop-sign l = vec_len l.left
+abbrev pub decreases-loop-left : goal.decreases-loop-left
+decreases-loop-left l = l.left
