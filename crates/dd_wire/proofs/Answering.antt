@@ -1,6 +1,6 @@
 -- From what the readers of texts answer to what the tests of a request find.
 use Rattle.std.proofs.Common.{◌≡◌, ℕ, ◌+◌, Bool, true, false, not, List, [], ◌∷◌, ◌++◌, length, map, Option, None, Some, Result, Ok, Err, refl, sym, ap, ◌∙◌, subst, arith}
-use Rattle.std.specs.Prelude.{is_some, IfOk}
+use Rattle.std.specs.Prelude.{is_some, IfOk, ⊤}
 use Rattle.std.specs.Borrow.{Bor}
 use Rattle.std.specs.Option.{option_copied}
 use Rattle.std.proofs.lemmas.List.{length-map}
@@ -25,7 +25,7 @@ use Rattle.dd_wire.specs.Placed.{are_peers, at_peer, placed}
 use Rattle.dd_wire.specs.Refusal.{Refusal, Tested, ◌>>=◌, demand, demand_none, refused_at, refused, bad_concept, concept_limit, symbols_full, bad_peers, no_peers, peers_twice}
 use Rattle.dd_wire.specs.Texts.{concept, implication, pieces_of, rule_pieces, IsFirstOutside, RuleTree, Parsed, peers, put, ask, check, versions, Each, Parses, sides_of, rule_trees, trees_of, first_large, with_texts, has_room, Parse, parsed, outside, IsParse, Resolved, sized_texts}
 use Rattle.dd_wire.specs.Requests.{rule_of_trees, AfterPlace, Tests, Reads, IsNumbered, declared_names}
-use Rattle.dd_wire.specs.Progress.{Progress, progress, no_texts, after_text, after_texts, IsSound, Leads, IsAxiomAfter, IsRuleAfter, Stops, ReadsText, ReadsAxioms, ReadsRules, finished, size_test, IsPeer, IsFound, ReadsOn, ReadsQuery, asked, checked}
+use Rattle.dd_wire.specs.Progress.{Progress, progress, no_texts, after_text, after_texts, IsSound, Leads, IsAxiomAfter, IsRuleAfter, Stops, ReadsText, ReadsAxioms, ReadsRules, finished, passed_on, size_test, IsPeer, IsFound, ReadsOn, ReadsQuery, asked, checked}
 use Rattle.dd_wire.proofs.Pieces.{Each-implies, Each-length, Each-map, pieces_of_axioms, pieces_of_rules}
 use Rattle.dd_wire.proofs.Tallies.{Leads-refl, Leads-trans, after_texts-append, not_passed, passed, texts_after_all}
 use Rattle.dd_wire.proofs.Joining.{Leads-after, stops_behind, stops_in_front}
@@ -118,7 +118,7 @@ module _ (names : Option (List (List ℕ))) (s : SymbolLists) (peer left right :
       let stop : Stops (progress no_texts s) (concept left ∷ concept right ∷ []) new e = stops_behind (progress no_texts s) mid new (concept left ∷ []) (concept right ∷ []) ((h.0 ∷ []) ∷ []) e (h.1, tt) h.2 k in
       (stop.grows, found_stop names s (form.ask peer left right None None) true new e at.0 stop)
 
-  pub query_refused : (mid final : Progress) (number : ℕ) (c d : Concept) (e : WireErr) → has_room s ≡ true → IsPeer names peer (Ok number) → ReadsText (progress no_texts s) left mid (Ok c) → ReadsText mid right final (Ok d)
+  query_refused : (mid final : Progress) (number : ℕ) (c d : Concept) (e : WireErr) → has_room s ≡ true → IsPeer names peer (Ok number) → ReadsText (progress no_texts s) left mid (Ok c) → ReadsText mid right final (Ok d)
       → finished final.tally ≡ Err e → ReadsQuery names s peer left right final.symbols (Err e)
   unfolding ReadsQuery ReadsText
   query_refused mid final number c d e room at h k is =
@@ -127,7 +127,7 @@ module _ (names : Option (List (List ℕ))) (s : SymbolLists) (peer left right :
         found_size names s (form.ask peer left right None None) true (ask peer h.0 k.0 None None) final e room at.0 (h.0, k.0, h.1, k.1, refl) after is,
       )
 
-  pub query_is_read : (mid final : Progress) (number : ℕ) (c d : Concept) → has_room s ≡ true → IsPeer names peer (Ok number) → ReadsText (progress no_texts s) left mid (Ok c) → ReadsText mid right final (Ok d)
+  query_is_read : (mid final : Progress) (number : ℕ) (c d : Concept) → has_room s ≡ true → IsPeer names peer (Ok number) → ReadsText (progress no_texts s) left mid (Ok c) → ReadsText mid right final (Ok d)
       → finished final.tally ≡ Ok tt → ReadsQuery names s peer left right final.symbols (Ok (record { peer = number; left = c; right = d }))
   unfolding ReadsQuery ReadsText
   query_is_read mid final number c d room at h k is =
@@ -147,6 +147,14 @@ module _ (names : Option (List (List ℕ))) (s : SymbolLists) (peer left right :
     where
       made : ℕ → Concept → Concept → Query
       made n x y = record { peer = n; left = x; right = y }
+
+  pub query_ends : (mid final : Progress) (number : ℕ) (c d : Concept) (r : Result Query WireErr) → has_room s ≡ true → IsPeer names peer (Ok number) → ReadsText (progress no_texts s) left mid (Ok c) → ReadsText mid right final (Ok d)
+      → r ≡ passed_on (finished final.tally) (record { peer = number; left = c; right = d }) → ReadsQuery names s peer left right final.symbols r
+  query_ends mid final number c d r room at h k is = subst (ReadsQuery names s peer left right final.symbols) (sym is) (by_tests (finished final.tally) refl)
+    where
+      by_tests : (t : Result ⊤ WireErr) → finished final.tally ≡ t → ReadsQuery names s peer left right final.symbols (passed_on t (record { peer = number; left = c; right = d }))
+      by_tests (Ok tt) passes = query_is_read mid final number c d room at h k passes
+      by_tests (Err e) passes = query_refused mid final number c d e room at h k passes
 
   -- an ask and a check are refused as the ask without budgets is
   as_ask : (t : Tested Bool) (x v : Option ℕ) (e : Refusal) → AfterPlace t s (form.ask peer left right None None) (Err e) → AfterPlace t s (form.ask peer left right x v) (Err e)

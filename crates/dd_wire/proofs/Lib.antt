@@ -1,6 +1,7 @@
 pub mod JsonLines
 pub mod NameBytes
 pub mod Floats
+pub mod FormParts
 pub mod PeerNames
 pub mod Parsing
 pub mod Distinct

@@ -140,6 +140,11 @@ finished_by None full = finished_room full
 abbrev pub finished : Tally → Result ⊤ WireErr
 finished t = finished_by t.large t.full
 
+-- what was read, where these tests find nothing
+abbrev pub passed_on : {A : Type 0} → Result ⊤ WireErr → A → Result A WireErr
+passed_on (Ok is) x = Ok x
+passed_on (Err e) x = Err e
+
 -- the tests of the trees of all texts, and the symbols with theirs
 unfoldable pub size_test : SymbolLists → List (List Term) → Tested SymbolLists
 size_test s trees = demand_none concept_limit (first_large trees)

@@ -1,5 +1,6 @@
 -- The text of a reply: compact JSON, its members in the byte order of their names.
 use Rattle.std.specs.Prelude.{ℕ, List, [], ◌∷◌, map, Bool, true, false, Option, None, Some, IsTrue, ⊤, codes}
+use Rattle.serde_json.specs.Data.{put as member_put}
 use Rattle.serde_json.specs.Data.{Data, unsigned, number, string, array, object, Items, no_items, item, Members, no_members, member}
 use Rattle.serde_json.specs.Written.{compact_text}
 use Rattle.dd_text.specs.Names.{names_a_thing}
@@ -45,6 +46,24 @@ fault_data id fault.NotCounter = plain_fault (codes "not_counter") id
 fault_data id (fault.Axiom index peer) = placed_fault (codes "axiom") id index peer
 fault_data id (fault.Into index peer) = placed_fault (codes "into") id index peer
 fault_data id (fault.Onto index peer) = placed_fault (codes "onto") id index peer
+
+-- the same beside members that are there
+abbrev pub put_maybe : List ℕ → Option ℕ → Members → Members
+put_maybe key None ms = ms
+put_maybe key (Some n) ms = member_put key (whole_number n) ms
+
+-- where a certificate cannot be read: its member, its number or its text
+abbrev pub unread_field : List ℕ → ℕ → Data
+unread_field field id = object (member (codes "check") (string (codes "unreadable")) (member (codes "field") (string field)
+    (member (codes "id") (whole_number id) no_members)))
+
+abbrev pub unread_number : ℕ → ℕ → ℕ → Data
+unread_number place value id = object (member (codes "check") (string (codes "unreadable")) (member (codes "id") (whole_number id)
+    (member (codes "place") (whole_number place) (member (codes "value") (whole_number value) no_members))))
+
+abbrev pub unread_text : ℕ → ℕ → Data
+unread_text index id = object (member (codes "check") (string (codes "unreadable")) (member (codes "id") (whole_number id)
+    (member (codes "text") (whole_number index) no_members)))
 
 -- where a certificate cannot be read
 abbrev pub unread_data : ℕ → Unread → Data

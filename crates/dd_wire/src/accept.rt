@@ -1,14 +1,12 @@
 ghost use Rattle.std.specs.Prelude.{◌≡◌};
 ghost use Rattle.std.specs.Option.{option_copied};
-ghost use Rattle.serde_json.specs.View.{view};
-ghost use Rattle.dd_wire.specs.Accepted.{is_accepted, is_declared, is_one_name, is_derivation};
+ghost use Rattle.dd_wire.specs.Accepted.{is_accepted, is_declared, is_one_name};
 ghost use Rattle.dd_wire.specs.Forms.{written_of};
 
-use crate::form::Form;
+use crate::form::{Form, says};
 use crate::names::Names;
 use dd_json::Text;
 use dd_text::is_name;
-use serde_json::Value;
 
 /// Whether a form is accepted so far: the first declaration, of one name; puts without rules, asks between names without
 /// budgets, and checks of what is no derivation, each of a declared peer.
@@ -41,7 +39,7 @@ pub fn is_accepted_form(names: Option<&Names>, form: &Form) -> bool
                 && verdicts.is_none()
         }
         Form::Check { peer, cert, .. } => {
-            is_declared(names, peer.as_slice()) && !is_derivation(cert)
+            is_declared(names, peer.as_slice()) && !says(cert, "kind", "yes")
         }
         Form::Versions => false,
     }
@@ -62,15 +60,5 @@ fn is_one_name(names: &[Text]) -> bool
     match names {
         [name] => is_name(name.as_slice()),
         _ => false,
-    }
-}
-
-/// Whether a certificate says that it is a derivation.
-fn is_derivation(cert: &Value) -> bool
-    ensures { result ≡ is_derivation (view cert.now) }
-{
-    match cert.get("kind").and_then(Value::as_str) {
-        Some(kind) => kind == "yes",
-        None => false,
     }
 }

@@ -1,6 +1,7 @@
+ghost use Rattle.std.specs.Prelude.{◌≡◌};
 ghost use Rattle.serde_json.specs.View.{view, items_view};
 ghost use Rattle.dd_json.specs.Gives.{Gives, GivesSeen};
-ghost use Rattle.dd_wire.specs.Forms.{written_of, rule_of, rules_of, rules_at, peers_of, put_of, ask_of, check_of, versions_of, form_of};
+ghost use Rattle.dd_wire.specs.Forms.{written_of, says, rule_of, rules_of, rules_at, peers_of, put_of, both_rules_of, ask_of, budgets_of, three_texts_at, check_of, versions_of, form_of};
 
 use dd_concept::Items;
 use dd_json::{
@@ -10,7 +11,7 @@ use serde_json::Value;
 use std::alloc::Global;
 
 /// A bridge rule as it is written: the name of the peer that it comes from, and the texts of its concepts.
-#[derive(Debug, Drop)]
+#[derive(Drop)]
 pub struct RuleForm {
     pub from: Text,
     pub source: Text,
@@ -45,24 +46,31 @@ pub enum Form {
 }
 
 /// The form that a JSON value has, by its member `op`. The certificate of a check is moved out of the value.
-#[tactic(auto, unfolding(crate::specs::Forms::form_of))]
 pub fn form_at(alloc: Global, value: &mut Value) -> Result<Form, ShapeErr>
     ensures { GivesSeen written_of result (form_of (view value.old)) }
 {
-    let op = text(alloc, value, "op")?;
-    let op = op.as_slice();
-    if op == b"peers".as_slice() {
+    if says(value, "op", "peers") {
         peers(alloc, value)
-    } else if op == b"put".as_slice() {
+    } else if says(value, "op", "put") {
         put(alloc, value)
-    } else if op == b"ask".as_slice() {
+    } else if says(value, "op", "ask") {
         ask(alloc, value)
-    } else if op == b"check".as_slice() {
+    } else if says(value, "op", "check") {
         check(alloc, value)
-    } else if op == b"versions".as_slice() {
+    } else if says(value, "op", "versions") {
         versions(value)
     } else {
         Err(ShapeErr::Shape)
+    }
+}
+
+/// Whether a member is this string.
+pub fn says(value: &Value, key: &str, text: &str) -> bool
+    ensures { result ≡ says key.now text.now (view value.now) }
+{
+    match value.get(key).and_then(Value::as_str) {
+        Some(said) => said == text,
+        None => false,
     }
 }
 
@@ -75,18 +83,16 @@ fn peers(alloc: Global, value: &Value) -> Result<Form, ShapeErr>
     Ok(Form::Peers(names))
 }
 
-#[tactic(auto, unfolding(crate::specs::Forms::put_of))]
 fn put(alloc: Global, value: &Value) -> Result<Form, ShapeErr>
     ensures { GivesSeen written_of result (put_of (view value.now)) }
 {
-    let peer = text(alloc, value, "peer")?;
-    let axioms = listed(alloc, value, "axioms")?;
-    let into = rules(alloc, value, "into")?;
-    let onto = rules(alloc, value, "onto")?;
     wants_members(
         value,
         2 + count_of(value, "axioms") + count_of(value, "into") + count_of(value, "onto"),
     )?;
+    let peer = text(alloc, value, "peer")?;
+    let axioms = listed(alloc, value, "axioms")?;
+    let (into, onto) = both_rules(alloc, value)?;
     Ok(Form::Put {
         peer,
         axioms,
@@ -95,19 +101,21 @@ fn put(alloc: Global, value: &Value) -> Result<Form, ShapeErr>
     })
 }
 
-#[tactic(auto, unfolding(crate::specs::Forms::ask_of))]
+/// The into rules and the onto rules.
+#[tactic(auto, unfolding(crate::specs::Forms::both_rules_of))]
+fn both_rules(alloc: Global, value: &Value) -> Result<(Items<RuleForm>, Items<RuleForm>), ShapeErr>
+    ensures { Gives result (both_rules_of (view value.now)) }
+{
+    let into = rules(alloc, value, "into")?;
+    let onto = rules(alloc, value, "onto")?;
+    Ok((into, onto))
+}
+
 fn ask(alloc: Global, value: &Value) -> Result<Form, ShapeErr>
     ensures { GivesSeen written_of result (ask_of (view value.now)) }
 {
-    let peer = text(alloc, value, "peer")?;
-    let left = text(alloc, value, "left")?;
-    let right = text(alloc, value, "right")?;
-    let expansions = maybe_number(value, "expansions")?;
-    let verdicts = maybe_number(value, "verdicts")?;
-    wants_members(
-        value,
-        4 + count_of(value, "expansions") + count_of(value, "verdicts"),
-    )?;
+    let (expansions, verdicts) = budgets(value)?;
+    let (peer, left, right) = three_texts(alloc, value, "peer", "left", "right")?;
     Ok(Form::Ask {
         peer,
         left,
@@ -117,15 +125,26 @@ fn ask(alloc: Global, value: &Value) -> Result<Form, ShapeErr>
     })
 }
 
-#[tactic(auto, unfolding(crate::specs::Forms::check_of))]
+/// The budgets of an ask, which has no other members.
+#[tactic(auto, unfolding(crate::specs::Forms::budgets_of))]
+fn budgets(value: &Value) -> Result<(Option<u64>, Option<u64>), ShapeErr>
+    ensures { Gives result (budgets_of (view value.now)) }
+{
+    let expansions = maybe_number(value, "expansions")?;
+    let verdicts = maybe_number(value, "verdicts")?;
+    wants_members(
+        value,
+        4 + count_of(value, "expansions") + count_of(value, "verdicts"),
+    )?;
+    Ok((expansions, verdicts))
+}
+
 fn check(alloc: Global, value: &mut Value) -> Result<Form, ShapeErr>
     ensures { GivesSeen written_of result (check_of (view value.old)) }
 {
-    let peer = text(alloc, value, "peer")?;
-    let left = text(alloc, value, "left")?;
-    let right = text(alloc, value, "right")?;
-    let pin = indexes(alloc, value, "pin")?;
     wants_members(value, 6)?;
+    let pin = indexes(alloc, value, "pin")?;
+    let (peer, left, right) = three_texts(alloc, value, "peer", "left", "right")?;
     match value.get_mut("cert") {
         Some(member) => Ok(Form::Check {
             peer,
@@ -167,17 +186,31 @@ fn all_rules(alloc: Global, list: &[Value]) -> Result<Items<RuleForm>, ShapeErr>
     Ok(found)
 }
 
-#[tactic(auto, unfolding(crate::specs::Forms::rule_of))]
 fn rule(alloc: Global, value: &Value) -> Result<RuleForm, ShapeErr>
     ensures { Gives result (rule_of (view value.now)) }
 {
-    let from = text(alloc, value, "from")?;
-    let source = text(alloc, value, "source")?;
-    let target = text(alloc, value, "target")?;
     wants_members(value, 3)?;
+    let (from, source, target) = three_texts(alloc, value, "from", "source", "target")?;
     Ok(RuleForm {
         from,
         source,
         target,
     })
+}
+
+/// Three members that are strings.
+#[tactic(auto, unfolding(crate::specs::Forms::three_texts_at))]
+fn three_texts(
+    alloc: Global,
+    value: &Value,
+    first: &str,
+    second: &str,
+    third: &str,
+) -> Result<(Text, Text, Text), ShapeErr>
+    ensures { Gives result (three_texts_at first.now second.now third.now (view value.now)) }
+{
+    let first = text(alloc, value, first)?;
+    let second = text(alloc, value, second)?;
+    let third = text(alloc, value, third)?;
+    Ok((first, second, third))
 }

@@ -80,6 +80,7 @@ fn read_accepted(alloc: Global, names: Option<&Names>, line: &[u8]) -> Result<Fo
     if is_accepted_form(names, &form) {
         Ok(form)
     } else {
+        drop(form);
         Err(refusal(NOT_BUILT))
     }
 }

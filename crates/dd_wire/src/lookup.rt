@@ -14,7 +14,7 @@ use crate::code::{BAD_PEERS, NO_PEERS, PEERS_TWICE, UNKNOWN_PEER};
 use crate::form::{Form, RuleForm};
 use crate::names::Names;
 use crate::request::{Request, WireErr};
-use crate::texts::{axioms, concept, finish, no_texts, rules};
+use crate::texts::{axioms, concept, finish, finish_with, no_texts, rules};
 use dd_concept::Items;
 use dd_json::Text;
 use dd_peer::{PeerVersion, Pin, Query};
@@ -220,12 +220,12 @@ fn query(
     };
     let right = match concept(alloc, symbols, &mut tally, right) {
         Ok(c) => c,
-        Err(e) => return Err(e),
+        Err(e) => {
+            drop(left);
+            return Err(e);
+        }
     };
-    match finish(tally) {
-        Ok(()) => Ok(Query { peer, left, right }),
-        Err(e) => Err(e),
-    }
+    finish_with(tally, Query { peer, left, right })
 }
 
 fn ask(

@@ -1,13 +1,14 @@
-ghost use Rattle.std.specs.Prelude.{◌≡◌, IfOk, IsTrue};
-ghost use Rattle.serde_json.specs.View.{view};
+ghost use Rattle.std.specs.Prelude.{◌≡◌, IfOk, IsTrue, codes};
+ghost use Rattle.serde_json.specs.Data.{put, string, object, member, no_members};
+ghost use Rattle.serde_json.specs.View.{view, members_view};
 ghost use Rattle.dd_text.specs.Names.{names_a_thing};
-ghost use Rattle.dd_wire.specs.Replies.{numbers, verdict_name, placed_fault, fault_data, unread_data, reply_data, reply_text, IsPrintable};
+ghost use Rattle.dd_wire.specs.Replies.{numbers, whole_number, put_maybe, verdict_name, plain_fault, unread_field, unread_number, unread_text, placed_fault, fault_data, unread_data, reply_data, reply_text, IsPrintable};
 
 use crate::code::name_of;
 use crate::reply::{BadWorld, Reply, Unread};
 use dd_concept::NoMemory;
 use dd_peer::Pin;
-use serde_json::{Value, json};
+use serde_json::{Map, Value, put};
 use std::alloc::Global;
 use std::str::from_utf8;
 
@@ -38,23 +39,38 @@ fn value_of(alloc: Global, reply: &Reply) -> Result<Value, NoMemory>
 fn refused(alloc: Global, id: u64, code: u8, n: Option<u64>) -> Result<Value, NoMemory>
     ensures { IfOk result (λ value. view value ≡ reply_data (Reply.Refused id code n)) }
 {
+    let reply = of_request(alloc, id)?;
+    let reply = with(alloc, reply, "code", Value::from(code))?;
+    let reply = with_text(alloc, reply, "error", name_of(code))?;
+    numbered(alloc, reply, n)
+}
+
+/// The refusal with these members, and with its number where it has one.
+fn numbered(alloc: Global, reply: Map<String, Value>, n: Option<u64>) -> Result<Value, NoMemory>
+    ensures { IfOk result (λ value. view value ≡ object (put_maybe (codes "n") n (members_view reply.entries))) }
+{
     match n {
-        Some(n) => json!(in alloc; {"code": code, "error": name_of(code), "id": id, "n": n}),
-        None => json!(in alloc; {"code": code, "error": name_of(code), "id": id}),
+        Some(n) => Ok(Value::Object(with(alloc, reply, "n", Value::from(n))?)),
+        None => Ok(Value::Object(reply)),
     }
 }
 
 fn peers(alloc: Global, id: u64, count: u32) -> Result<Value, NoMemory>
     ensures { IfOk result (λ value. view value ≡ reply_data (Reply.Peers id count)) }
 {
-    json!(in alloc; {"id": id, "peers": count})
+    let reply = of_request(alloc, id)?;
+    let reply = with(alloc, reply, "peers", Value::from(count))?;
+    Ok(Value::Object(reply))
 }
 
 fn stored(alloc: Global, id: u64, peer: &[u8], version: u32) -> Result<Value, NoMemory>
     requires { IsTrue (names_a_thing peer.now) }
     ensures { IfOk result (λ value. view value ≡ reply_data (Reply.Put id peer.now version)) }
 {
-    json!(in alloc; {"id": id, "put": name_text(peer), "version": version})
+    let reply = of_request(alloc, id)?;
+    let reply = with_text(alloc, reply, "put", name_text(peer))?;
+    let reply = with(alloc, reply, "version", Value::from(version))?;
+    Ok(Value::Object(reply))
 }
 
 fn name_text(name: &[u8]) -> &str
@@ -70,54 +86,140 @@ fn name_text(name: &[u8]) -> &str
 fn decided(alloc: Global, id: u64, yes: bool, pin: &Pin) -> Result<Value, NoMemory>
     ensures { IfOk result (λ value. view value ≡ reply_data (Reply.Decided id yes pin.now)) }
 {
-    let versions = list_of(alloc, pin.versions.as_slice())?;
-    json!(in alloc; {"id": id, "pin": versions, "verdict": verdict(yes)})
+    let reply = of_request(alloc, id)?;
+    let reply = with_numbers(alloc, reply, "pin", pin.versions.as_slice())?;
+    let reply = with_text(alloc, reply, "verdict", verdict(yes))?;
+    Ok(Value::Object(reply))
 }
 
 fn valid(alloc: Global, id: u64) -> Result<Value, NoMemory>
     ensures { IfOk result (λ value. view value ≡ reply_data (Reply.Valid id)) }
 {
-    json!(in alloc; {"check": "valid", "id": id})
+    let reply = of_check(alloc, id, "valid")?;
+    Ok(Value::Object(reply))
 }
 
 fn invalid(alloc: Global, id: u64, fault: &BadWorld) -> Result<Value, NoMemory>
     ensures { IfOk result (λ value. view value ≡ fault_data id fault.now) }
 {
     match fault {
-        BadWorld::Shape => json!(in alloc; {"check": "invalid", "fault": "shape", "id": id}),
-        BadWorld::NotCounter => {
-            json!(in alloc; {"check": "invalid", "fault": "not_counter", "id": id})
-        }
+        BadWorld::Shape => plain_fault(alloc, id, "shape"),
+        BadWorld::NotCounter => plain_fault(alloc, id, "not_counter"),
         BadWorld::Axiom { index, peer } => at_place(alloc, id, "axiom", *index, *peer),
         BadWorld::Into { index, peer } => at_place(alloc, id, "into", *index, *peer),
         BadWorld::Onto { index, peer } => at_place(alloc, id, "onto", *index, *peer),
     }
 }
 
+fn plain_fault(alloc: Global, id: u64, fault: &str) -> Result<Value, NoMemory>
+    ensures { IfOk result (λ value. view value ≡ plain_fault fault.now id) }
+{
+    let reply = of_check(alloc, id, "invalid")?;
+    let reply = with_text(alloc, reply, "fault", fault)?;
+    Ok(Value::Object(reply))
+}
+
 fn at_place(alloc: Global, id: u64, fault: &str, index: u32, peer: u32) -> Result<Value, NoMemory>
     ensures { IfOk result (λ value. view value ≡ placed_fault fault.now id index peer) }
 {
-    json!(in alloc; {"check": "invalid", "fault": fault, "id": id, "index": index, "peer": peer})
+    let reply = of_check(alloc, id, "invalid")?;
+    let reply = with_text(alloc, reply, "fault", fault)?;
+    let reply = with(alloc, reply, "index", Value::from(index))?;
+    let reply = with(alloc, reply, "peer", Value::from(peer))?;
+    Ok(Value::Object(reply))
 }
 
 fn unreadable(alloc: Global, id: u64, what: &Unread) -> Result<Value, NoMemory>
     ensures { IfOk result (λ value. view value ≡ unread_data id what.now) }
 {
     match what {
-        Unread::Field(field) => {
-            json!(in alloc; {"check": "unreadable", "field": *field, "id": id})
-        }
-        Unread::Place { place, value } => {
-            json!(in alloc; {"check": "unreadable", "id": id, "place": *place, "value": *value})
-        }
-        Unread::Text(index) => json!(in alloc; {"check": "unreadable", "id": id, "text": *index}),
+        Unread::Field(field) => bad_field(alloc, id, *field),
+        Unread::Place { place, value } => large_number(alloc, id, *place, *value),
+        Unread::Text(index) => bad_text(alloc, id, *index),
     }
+}
+
+fn bad_field(alloc: Global, id: u64, field: &str) -> Result<Value, NoMemory>
+    ensures { IfOk result (λ value. view value ≡ unread_field field.now id) }
+{
+    let reply = of_check(alloc, id, "unreadable")?;
+    let reply = with_text(alloc, reply, "field", field)?;
+    Ok(Value::Object(reply))
+}
+
+fn large_number(alloc: Global, id: u64, place: u32, value: u64) -> Result<Value, NoMemory>
+    ensures { IfOk result (λ value'. view value' ≡ unread_number place value id) }
+{
+    let reply = of_check(alloc, id, "unreadable")?;
+    let reply = with(alloc, reply, "place", Value::from(place))?;
+    let reply = with(alloc, reply, "value", Value::from(value))?;
+    Ok(Value::Object(reply))
+}
+
+fn bad_text(alloc: Global, id: u64, index: u32) -> Result<Value, NoMemory>
+    ensures { IfOk result (λ value. view value ≡ unread_text index id) }
+{
+    let reply = of_check(alloc, id, "unreadable")?;
+    let reply = with(alloc, reply, "text", Value::from(index))?;
+    Ok(Value::Object(reply))
 }
 
 fn verdict(yes: bool) -> &'static str
     ensures { result.now ≡ verdict_name yes }
 {
     if yes { "yes" } else { "no" }
+}
+
+/// The members of a reply to a request.
+fn of_request(alloc: Global, id: u64) -> Result<Map<String, Value>, NoMemory>
+    ensures { IfOk result (λ new. members_view new.entries ≡ member (codes "id") (whole_number id) no_members) }
+{
+    with(alloc, Map::new(alloc), "id", Value::from(id))
+}
+
+/// The members of a reply to a check.
+fn of_check(alloc: Global, id: u64, outcome: &str) -> Result<Map<String, Value>, NoMemory>
+    ensures { IfOk result (λ new. members_view new.entries ≡ member (codes "check") (string outcome.now) (member (codes "id") (whole_number id) no_members)) }
+{
+    let reply = of_request(alloc, id)?;
+    with_text(alloc, reply, "check", outcome)
+}
+
+/// The members and one more, each at its place in the byte order of their names.
+fn with(
+    alloc: Global,
+    mut members: Map<String, Value>,
+    name: &str,
+    value: Value,
+) -> Result<Map<String, Value>, NoMemory>
+    ensures { IfOk result (λ new. members_view new.entries ≡ put name.now (view value) (members_view members.entries)) }
+{
+    put(&mut members, alloc, name, value)?;
+    Ok(members)
+}
+
+fn with_text(
+    alloc: Global,
+    members: Map<String, Value>,
+    name: &str,
+    text: &str,
+) -> Result<Map<String, Value>, NoMemory>
+    ensures { IfOk result (λ new. members_view new.entries ≡ put name.now (string text.now) (members_view members.entries)) }
+{
+    let text = Value::try_from_str(alloc, text)?;
+    with(alloc, members, name, text)
+}
+
+fn with_numbers(
+    alloc: Global,
+    members: Map<String, Value>,
+    name: &str,
+    list: &[u32],
+) -> Result<Map<String, Value>, NoMemory>
+    ensures { IfOk result (λ new. members_view new.entries ≡ put name.now (numbers list.now) (members_view members.entries)) }
+{
+    let list = list_of(alloc, list)?;
+    with(alloc, members, name, list)
 }
 
 fn list_of(alloc: Global, list: &[u32]) -> Result<Value, NoMemory>

@@ -3,7 +3,7 @@ use dd_json::Text;
 use dd_peer::Pin;
 
 /// Why a world is no countermodel. Peers are numbered in declared order, and axioms and rules in their lists, from 0.
-#[derive(Debug, Drop)]
+#[derive(Drop)]
 pub enum BadWorld {
     Shape,
     NotCounter,
@@ -13,7 +13,7 @@ pub enum BadWorld {
 }
 
 /// Where a certificate cannot be read.
-#[derive(Debug, Drop)]
+#[derive(Drop)]
 pub enum Unread {
     /// The member of the certificate that has another form.
     Field(&'static str),
@@ -24,7 +24,7 @@ pub enum Unread {
 }
 
 /// A reply. `id` is the number of its request, from 1 on.
-#[derive(Debug, Drop)]
+#[derive(Drop)]
 pub enum Reply {
     Refused { id: u64, code: u8, n: Option<u64> },
     Peers { id: u64, count: u32 },

@@ -1,6 +1,6 @@
 ghost use Rattle.std.specs.Prelude.{◌≡◌, ◌<◌, ◌^◌, [], ◌∷◌, OnOk};
 ghost use Rattle.std.specs.Option.{option_copied};
-ghost use Rattle.dd_wire.specs.Progress.{progress, no_texts, noted_of, with_large, finished, finished_room, ReadsText, ReadsAxioms, ReadsRules, single};
+ghost use Rattle.dd_wire.specs.Progress.{progress, no_texts, noted_of, with_large, finished, finished_room, passed_on, ReadsText, ReadsAxioms, ReadsRules, single};
 ghost use Rattle.dd_wire.specs.Requests.{declared_names, source_number};
 
 use crate::code::{BAD_CONCEPT, CONCEPT_LIMIT, SYMBOLS_FULL};
@@ -176,7 +176,10 @@ fn rule(
     };
     let target = match concept(alloc, symbols, tally, form.target.as_slice()) {
         Ok(c) => c,
-        Err(e) => return Err(e),
+        Err(e) => {
+            drop(source);
+            return Err(e);
+        }
     };
     Ok(Rule {
         from: source_number(names, form.from.as_slice()),
@@ -207,6 +210,16 @@ pub fn rules(
         }
     }
     Ok(found)
+}
+
+/// What was read of the texts, where it passes the tests that come after the last one.
+pub fn finish_with<T: Drop>(tally: Tally, read: T) -> Result<T, WireErr>
+    ensures { result ≡ passed_on (finished tally) read }
+{
+    match finish(tally) {
+        Ok(()) => Ok(read),
+        Err(e) => Err(e),
+    }
 }
 
 /// The tests that come after the last text.

@@ -1,7 +1,7 @@
-use Rattle.std.proofs.Common.{Ok, Err, subst, sym}
+use Rattle.std.proofs.Common.{Ok, Err, subst}
 use Rattle.std.specs.Option.{option_copied}
 use Rattle.dd_wire.specs.Progress.{Progress, progress, ReadsText}
-use Rattle.dd_wire.proofs.Answering.{left_stops, query_is_read, query_refused, query_without_peer, right_stops}
+use Rattle.dd_wire.proofs.Answering.{left_stops, query_ends, query_without_peer, right_stops}
 use Rattle.dd_wire.proofs.lookup.query.Goals as goal
 
 pub returns-in-Err : goal.returns-in-Err
@@ -23,22 +23,12 @@ returns-in-Err-concept-2 c =
     (subst (λ t. ReadsText (progress t s) c.args.left.now mid (Ok c.in-Ok-concept.c)) c.no_texts-tally.ensures c.in-Ok-concept.ensures)
     c.in-Err-concept-2.ensures
 
-pub returns-in-Ok-finish : goal.returns-in-Ok-finish
-returns-in-Ok-finish c =
+pub returns : goal.returns
+returns c =
     let s = c.args.symbols.now in
     let mid : Progress = progress c.concept.new.tally c.concept.new.symbols in
     let final : Progress = progress c.concept-2.new.tally c.concept-2.new.symbols in
-    query_is_read (option_copied c.args.names) s c.args.peer.now c.args.left.now c.args.right.now mid final c.in-Ok.number c.in-Ok-concept.c c.in-Ok-concept-2.c c.requires c.in-Ok.ensures
+    query_ends (option_copied c.args.names) s c.args.peer.now c.args.left.now c.args.right.now mid final c.in-Ok.number c.in-Ok-concept.c c.in-Ok-concept-2.c c.finish_with.result c.requires c.in-Ok.ensures
     (subst (λ t. ReadsText (progress t s) c.args.left.now mid (Ok c.in-Ok-concept.c)) c.no_texts-tally.ensures c.in-Ok-concept.ensures)
     c.in-Ok-concept-2.ensures
-    (sym c.in-Ok-finish.ensures.tests)
-
-pub returns-in-Err-finish : goal.returns-in-Err-finish
-returns-in-Err-finish c =
-    let s = c.args.symbols.now in
-    let mid : Progress = progress c.concept.new.tally c.concept.new.symbols in
-    let final : Progress = progress c.concept-2.new.tally c.concept-2.new.symbols in
-    query_refused (option_copied c.args.names) s c.args.peer.now c.args.left.now c.args.right.now mid final c.in-Ok.number c.in-Ok-concept.c c.in-Ok-concept-2.c c.in-Err-finish.e c.requires c.in-Ok.ensures
-    (subst (λ t. ReadsText (progress t s) c.args.left.now mid (Ok c.in-Ok-concept.c)) c.no_texts-tally.ensures c.in-Ok-concept.ensures)
-    c.in-Ok-concept-2.ensures
-    (sym c.in-Err-finish.ensures.tests)
+    c.finish_with.ensures
