@@ -52,11 +52,11 @@ abbrev pub put_maybe : List ℕ → Option ℕ → Members → Members
 put_maybe key None ms = ms
 put_maybe key (Some n) ms = member_put key (whole_number n) ms
 
--- where a certificate cannot be read: its member, its number or its text
-abbrev pub unread_field : List ℕ → ℕ → Data
-unread_field field id = object (member (codes "check") (string (codes "unreadable")) (member (codes "field") (string field)
-    (member (codes "id") (whole_number id) no_members)))
+-- the outcome of a check, and the number of its request
+abbrev pub checked : List ℕ → ℕ → Members
+checked outcome id = member (codes "check") (string outcome) (member (codes "id") (whole_number id) no_members)
 
+-- where a certificate cannot be read: its number or its text
 abbrev pub unread_number : ℕ → ℕ → ℕ → Data
 unread_number place value id = object (member (codes "check") (string (codes "unreadable")) (member (codes "id") (whole_number id)
     (member (codes "place") (whole_number place) (member (codes "value") (whole_number value) no_members))))

@@ -2,7 +2,7 @@ ghost use Rattle.std.specs.Prelude.{◌≡◌, IfOk, IsTrue, codes};
 ghost use Rattle.serde_json.specs.Data.{put, string, object, member, no_members};
 ghost use Rattle.serde_json.specs.View.{view, members_view};
 ghost use Rattle.dd_text.specs.Names.{names_a_thing};
-ghost use Rattle.dd_wire.specs.Replies.{numbers, whole_number, put_maybe, verdict_name, plain_fault, unread_field, unread_number, unread_text, placed_fault, fault_data, unread_data, reply_data, reply_text, IsPrintable};
+ghost use Rattle.dd_wire.specs.Replies.{numbers, whole_number, put_maybe, verdict_name, checked, unread_number, unread_text, placed_fault, fault_data, unread_data, reply_data, reply_text, IsPrintable};
 
 use crate::code::name_of;
 use crate::reply::{BadWorld, Reply, Unread};
@@ -103,19 +103,26 @@ fn invalid(alloc: Global, id: u64, fault: &BadWorld) -> Result<Value, NoMemory>
     ensures { IfOk result (λ value. view value ≡ fault_data id fault.now) }
 {
     match fault {
-        BadWorld::Shape => plain_fault(alloc, id, "shape"),
-        BadWorld::NotCounter => plain_fault(alloc, id, "not_counter"),
+        BadWorld::Shape => check_with(alloc, id, "invalid", "fault", "shape"),
+        BadWorld::NotCounter => check_with(alloc, id, "invalid", "fault", "not_counter"),
         BadWorld::Axiom { index, peer } => at_place(alloc, id, "axiom", *index, *peer),
         BadWorld::Into { index, peer } => at_place(alloc, id, "into", *index, *peer),
         BadWorld::Onto { index, peer } => at_place(alloc, id, "onto", *index, *peer),
     }
 }
 
-fn plain_fault(alloc: Global, id: u64, fault: &str) -> Result<Value, NoMemory>
-    ensures { IfOk result (λ value. view value ≡ plain_fault fault.now id) }
+/// The reply to a check with this outcome and one more member.
+fn check_with(
+    alloc: Global,
+    id: u64,
+    outcome: &str,
+    name: &str,
+    text: &str,
+) -> Result<Value, NoMemory>
+    ensures { IfOk result (λ value. view value ≡ object (put name.now (string text.now) (checked outcome.now id))) }
 {
-    let reply = of_check(alloc, id, "invalid")?;
-    let reply = with_text(alloc, reply, "fault", fault)?;
+    let reply = of_check(alloc, id, outcome)?;
+    let reply = with_text(alloc, reply, name, text)?;
     Ok(Value::Object(reply))
 }
 
@@ -133,22 +140,14 @@ fn unreadable(alloc: Global, id: u64, what: &Unread) -> Result<Value, NoMemory>
     ensures { IfOk result (λ value. view value ≡ unread_data id what.now) }
 {
     match what {
-        Unread::Field(field) => bad_field(alloc, id, *field),
+        Unread::Field(field) => check_with(alloc, id, "unreadable", "field", *field),
         Unread::Place { place, value } => large_number(alloc, id, *place, *value),
         Unread::Text(index) => bad_text(alloc, id, *index),
     }
 }
 
-fn bad_field(alloc: Global, id: u64, field: &str) -> Result<Value, NoMemory>
-    ensures { IfOk result (λ value. view value ≡ unread_field field.now id) }
-{
-    let reply = of_check(alloc, id, "unreadable")?;
-    let reply = with_text(alloc, reply, "field", field)?;
-    Ok(Value::Object(reply))
-}
-
 fn large_number(alloc: Global, id: u64, place: u32, value: u64) -> Result<Value, NoMemory>
-    ensures { IfOk result (λ value'. view value' ≡ unread_number place value id) }
+    ensures { IfOk result (λ reply. view reply ≡ unread_number place value id) }
 {
     let reply = of_check(alloc, id, "unreadable")?;
     let reply = with(alloc, reply, "place", Value::from(place))?;
@@ -179,7 +178,7 @@ fn of_request(alloc: Global, id: u64) -> Result<Map<String, Value>, NoMemory>
 
 /// The members of a reply to a check.
 fn of_check(alloc: Global, id: u64, outcome: &str) -> Result<Map<String, Value>, NoMemory>
-    ensures { IfOk result (λ new. members_view new.entries ≡ member (codes "check") (string outcome.now) (member (codes "id") (whole_number id) no_members)) }
+    ensures { IfOk result (λ new. members_view new.entries ≡ checked outcome.now id) }
 {
     let reply = of_request(alloc, id)?;
     with_text(alloc, reply, "check", outcome)

@@ -15,7 +15,7 @@ use std::alloc::Global;
 
 /// What is known of the texts of a request that were read so far: how many they are, the number of the first with a concept
 /// that is above the limits, and whether there was no room for the symbols of one.
-#[derive(Clone, Copy, Debug)]
+#[derive(Clone, Copy)]
 pub struct Tally {
     pub texts: u32,
     pub large: Option<u32>,
