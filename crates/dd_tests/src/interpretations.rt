@@ -1,13 +1,14 @@
+use crate::rows::{Failure, check_one};
 use dd_concept::{Items, NoMemory};
 use dd_interp::{Interp, append, is_shaped};
 use std::alloc::Global;
-use std::test::Fail;
 
-// two elements, the first of them in name 5 and with the second in role 7
+/// Two elements, the first of them in name 5 and with the second in role 7.
 fn sample(alloc: Global) -> Result<Interp, NoMemory> {
+    let names = Items::from_slice(alloc, &[(5, 0)])?;
     Ok(Interp {
         size: 2,
-        names: Items::from_slice(alloc, &[(5, 0)])?,
+        names,
         roles: Items::from_slice(alloc, &[(7, 0, 1)])?,
     })
 }
@@ -18,19 +19,30 @@ fn is_twice_the_sample(i: &Interp) -> bool {
         && i.roles.as_slice() == [(7, 0, 1), (7, 2, 3)].as_slice()
 }
 
-// Whether the sample appended to itself is as it should be.
-fn appends(alloc: Global, other: &Interp) -> Result<bool, NoMemory> {
-    let mut i = sample(alloc)?;
-    if !is_shaped(&i) || i.size != 2 || !is_shaped(other) || other.size != 2 {
+/// Whether these elements become the sample twice with the other ones behind them.
+fn become_twice(alloc: Global, i: &mut Interp, other: &Interp) -> Result<bool, NoMemory> {
+    if !is_shaped(i) || i.size != 2 || !is_shaped(other) || other.size != 2 {
         return Ok(false);
     }
-    append(alloc, &mut i, other)?;
-    Ok(is_twice_the_sample(&i))
+    append(alloc, i, other)?;
+    Ok(is_twice_the_sample(i))
+}
+
+fn doubles(alloc: Global, other: &Interp) -> Result<bool, NoMemory> {
+    let mut i = sample(alloc)?;
+    let is_right = become_twice(alloc, &mut i, other);
+    drop(i);
+    is_right
+}
+
+fn sample_doubles(alloc: Global) -> Result<bool, NoMemory> {
+    let other = sample(alloc)?;
+    let is_right = doubles(alloc, &other);
+    drop(other);
+    is_right
 }
 
 #[test]
-fn append_moves_elements_up(rt: HostRuntime) -> Result<(), Fail> {
-    let other = sample(rt.alloc())?;
-    assert!(rt; appends(rt.alloc(), &other)?);
-    Ok(())
+fn append_moves_elements_up(rt: HostRuntime) -> Result<(), Failure> {
+    check_one(sample_doubles(rt.alloc()))
 }

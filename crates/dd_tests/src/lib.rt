@@ -1,8 +1,4 @@
 //! Tests of the libraries, by their public calls. They stand in a crate of their own, since a crate with tests is proved twice.
-//!
-//! They show what no session of the program's own tests shows: `concepts`, `interpretations`, `peers` and `worlds` of several
-//! peers; `lines` however they are read; `members` of JSON objects; `symbols` and `texts` both ways; `lookups` and `replies`
-//! of the protocol, with the codes that the program does not answer yet.
 #![tactic(auto)]
 
 #[cfg(test)]
@@ -20,8 +16,12 @@ mod peers;
 #[cfg(test)]
 mod replies;
 #[cfg(test)]
+mod rows;
+#[cfg(test)]
 mod symbols;
 #[cfg(test)]
 mod texts;
+#[cfg(test)]
+mod versions;
 #[cfg(test)]
 mod worlds;

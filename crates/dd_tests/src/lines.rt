@@ -1,63 +1,124 @@
+ghost use Rattle.std.specs.Prelude.{◌≤◌};
+
+use crate::rows::{Failure, Row, check, check_one};
+use dd_concept::NoMemory;
 use dd_lines::{
     LineReader, LineStep, MemSource, ReadErr, Sink, Source, StdSink, StdSource, write_whole,
 };
 use std::alloc::Global;
-use std::test::Fail;
 
-/// What the first four calls answer, one after another: a line and `|`, or a sign. The longest line has four bytes.
-fn answers<S: Source>(alloc: Global, source: &mut S, max_bytes: u64) -> Result<Vec<u8>, Fail> {
-    let mut reader = LineReader::new(alloc, 4, max_bytes)?;
-    let mut signs = Vec::new(alloc);
-    for _ in 0..4 {
-        match reader.next_line(alloc, source) {
-            Ok(LineStep::Line(line)) => {
-                signs.extend_from_slice(line.as_slice())?;
-                signs.push(b'|')?;
-            }
-            Ok(LineStep::TooLong) => signs.push(b'>')?,
-            Ok(LineStep::End) => signs.push(b'.')?,
-            Err(ReadErr::TooMuch) => signs.push(b'+')?,
-            Err(ReadErr::ReadFault) => signs.push(b'!')?,
-            Err(ReadErr::Failed { faults: 1 }) => signs.push(b'1')?,
-            Err(_) => signs.push(b'?')?,
-        }
-    }
-    Ok(signs)
+/// An input, and what the first four calls of a reader answer: a line, or a sign. The longest line has four bytes, and the
+/// whole input eight.
+struct Cut {
+    input: &'static [u8],
+    answers: [&'static [u8]; 4],
 }
 
-#[test]
-fn lines_are_cut_however_they_are_read(rt: HostRuntime) -> Result<(), Fail> {
-    let rows = [
-        (&b"abcd\nef\n"[..], &b"abcd|ef|.."[..]),
-        (&b"abcd\nef\nx"[..], &b"abcd|ef|++"[..]),
-        (&b"abcde\nf"[..], &b">f|.."[..]),
-        (&b"abcdefg"[..], &b">..."[..]),
-        (&b""[..], &b"...."[..]),
-        (&b"\n"[..], &b"|..."[..]),
-        (&b"ab"[..], &b"ab|..."[..]),
-    ];
-    for (input, want) in rows {
-        for piece in [1, 3, 100] {
-            let bytes = input.to_vec(rt.alloc())?;
-            let mut source = MemSource::new(bytes, piece, Vec::new(rt.alloc()));
-            let signs = answers(rt.alloc(), &mut source, 8)?;
-            assert_eq!(rt; signs.as_slice(), want);
-        }
+impl Row for Cut {
+    fn is_right(&self, alloc: Global) -> Result<bool, NoMemory> {
+        Ok(is_cut(alloc, self, 1)? && is_cut(alloc, self, 3)? && is_cut(alloc, self, 100)?)
     }
-    Ok(())
 }
 
+fn is_cut(alloc: Global, cut: &Cut, piece: usize) -> Result<bool, NoMemory>
+    requires { 1 ≤ piece }
+{
+    let bytes = cut.input.to_vec(alloc)?;
+    let mut source = MemSource::new(bytes, piece, Vec::new(alloc));
+    let is_cut = answers(alloc, &mut source, cut.answers.as_slice());
+    drop(source);
+    is_cut
+}
+
+fn answers<S: Source>(alloc: Global, source: &mut S, wanted: &[&[u8]]) -> Result<bool, NoMemory> {
+    let mut reader = LineReader::new(alloc, 4, 8)?;
+    for answer in wanted {
+        if !is_next(alloc, &mut reader, source, answer) {
+            return Ok(false);
+        }
+    }
+    Ok(true)
+}
+
+fn is_next<S: Source>(
+    alloc: Global,
+    reader: &mut LineReader,
+    source: &mut S,
+    wanted: &[u8],
+) -> bool {
+    let step = reader.next_line(alloc, source);
+    let is_next = shown(&step) == wanted;
+    drop(step);
+    is_next
+}
+
+fn shown(step: &Result<LineStep, ReadErr>) -> &[u8] {
+    match step {
+        Ok(LineStep::Line(line)) => line.as_slice(),
+        Ok(LineStep::TooLong) => b">",
+        Ok(LineStep::End) => b".",
+        Err(ReadErr::TooMuch) => b"+",
+        Err(_) => b"?",
+    }
+}
+
+const CUTS: &[Cut] = &[
+    Cut {
+        input: b"abcd\nef\n",
+        answers: [b"abcd", b"ef", b".", b"."],
+    },
+    Cut {
+        input: b"abcd\nef\nx",
+        answers: [b"abcd", b"ef", b"+", b"+"],
+    },
+    Cut {
+        input: b"abcde\nf",
+        answers: [b">", b"f", b".", b"."],
+    },
+    Cut {
+        input: b"abcdefg",
+        answers: [b">", b".", b".", b"."],
+    },
+    Cut {
+        input: b"",
+        answers: [b".", b".", b".", b"."],
+    },
+    Cut {
+        input: b"\n",
+        answers: [b"", b".", b".", b"."],
+    },
+    Cut {
+        input: b"ab",
+        answers: [b"ab", b".", b".", b"."],
+    },
+];
+
 #[test]
-fn readers_and_writers_of_std_serve(rt: HostRuntime) -> Result<(), Fail> {
+fn lines_are_cut_however_they_are_read(rt: HostRuntime) -> Result<(), Failure> {
+    check(rt.alloc(), CUTS)
+}
+
+fn reads_of_std(alloc: Global) -> Result<bool, NoMemory> {
     let mut source = StdSource::new(&b"ab\n\ncd"[..]);
-    let signs = answers(rt.alloc(), &mut source, 8)?;
-    assert_eq!(rt; signs.as_slice(), &b"ab||cd|."[..]);
+    answers(alloc, &mut source, &[b"ab", b"", b"cd", b"."])
+}
 
-    let mut written = Vec::new(rt.alloc());
+#[test]
+fn readers_of_std_serve(rt: HostRuntime) -> Result<(), Failure> {
+    check_one(reads_of_std(rt.alloc()))
+}
+
+fn writes_to_std(alloc: Global) -> bool {
+    let mut written = Vec::new(alloc);
     let mut sink = StdSink::new(&mut written);
-    assert!(rt; write_whole(&mut sink, b"abc").is_ok());
-    assert_eq!(rt; sink.faults(), 0);
+    let is_given = write_whole(&mut sink, b"abc").is_ok() && sink.faults() == 0;
     drop(sink);
-    assert_eq!(rt; written.as_slice(), &b"abc"[..]);
-    Ok(())
+    let is_written = written.as_slice() == b"abc".as_slice();
+    drop(written);
+    is_given && is_written
+}
+
+#[test]
+fn writers_of_std_serve(rt: HostRuntime) -> Result<(), Failure> {
+    check_one(Ok(writes_to_std(rt.alloc())))
 }

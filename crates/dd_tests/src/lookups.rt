@@ -1,184 +1,79 @@
+use crate::rows::{Failure, Row, check};
 use dd_concept::{Axiom, Concept, Items, NoMemory};
 use dd_json::Text;
 use dd_peer::{PeerVersion, Rule};
 use dd_text::Symbols;
-use dd_wire::{Form, Names, Request, RuleForm, WireErr, are_peers, read_request, resolve};
+use dd_wire::{Names, Request, WireErr, are_peers, read_form, read_request, resolve};
 use std::alloc::Global;
-use std::test::Fail;
 
-fn texts(alloc: Global, list: &[&[u8]]) -> Result<Items<Text>, NoMemory> {
-    let mut found = Items::new(alloc);
-    for text in list {
-        found.push(Items::from_slice(alloc, text)?)?;
-    }
-    Ok(found)
+/// A line of a new session, where the peers `Here` and `There` may be declared: its code, and how many names and roles
+/// it leaves.
+struct Line {
+    is_declared: bool,
+    line: &'static [u8],
+    code: (u8, Option<u64>),
+    symbols: (u32, u32),
 }
 
-// Names p00, p01 and so on.
-fn numbered(alloc: Global, count: u8) -> Result<Items<Text>, NoMemory> {
-    let mut found = Items::new(alloc);
-    for i in 0..count {
-        found.push(Items::from_slice(alloc, &[b'p', b'0' + i / 10 % 10, b'0' + i % 10])?)?;
-    }
-    Ok(found)
-}
-
-fn two_peers(alloc: Global) -> Result<Names, NoMemory> {
-    let names = texts(alloc, &[b"Here", b"There"])?;
-    if !are_peers(names.as_slice()) {
-        return Err(NoMemory);
-    }
-    Names::new(alloc, &names)
-}
-
-fn ask_form(alloc: Global, peer: &[u8], left: &[u8], right: &[u8]) -> Result<Form, NoMemory> {
-    Ok(Form::Ask {
-        peer: Items::from_slice(alloc, peer)?,
-        left: Items::from_slice(alloc, left)?,
-        right: Items::from_slice(alloc, right)?,
-        expansions: Some(7),
-        verdicts: None,
-    })
-}
-
-fn rule_form(
-    alloc: Global,
-    from: &[u8],
-    source: &[u8],
-    target: &[u8],
-) -> Result<Items<RuleForm>, NoMemory> {
-    let mut forms = Items::new(alloc);
-    forms.push(RuleForm {
-        from: Items::from_slice(alloc, from)?,
-        source: Items::from_slice(alloc, source)?,
-        target: Items::from_slice(alloc, target)?,
-    })?;
-    Ok(forms)
-}
-
-fn put_form(
-    alloc: Global,
-    axioms: Items<Text>,
-    into: Items<RuleForm>,
-    onto: Items<RuleForm>,
-) -> Result<Form, NoMemory> {
-    Ok(Form::Put {
-        peer: Items::from_slice(alloc, b"Here")?,
-        axioms,
-        into,
-        onto,
-    })
-}
-
-// 0 for a request, 255 for want of memory, else the code.
-fn told(answer: Result<Request, WireErr>) -> (u8, Option<u64>) {
-    match answer {
-        Ok(_) => (0, None),
-        Err(WireErr::Code { code, n }) => (code, n),
-        Err(WireErr::NoMemory) => (255, None),
+impl Row for Line {
+    fn is_right(&self, alloc: Global) -> Result<bool, NoMemory> {
+        if !self.is_declared {
+            return gives(alloc, None, self);
+        }
+        let names = two_peers(alloc)?;
+        let is_right = gives(alloc, Some(&names), self);
+        drop(names);
+        is_right
     }
 }
 
-// The code of a form in a new session where these peers are declared, if any.
+fn gives(alloc: Global, names: Option<&Names>, line: &Line) -> Result<bool, NoMemory> {
+    let mut symbols = Symbols::new(alloc)?;
+    let code = code_of(alloc, &mut symbols, names, line.line);
+    let has_counts = has_counts(&symbols, line.symbols);
+    drop(symbols);
+    Ok(code == line.code && has_counts)
+}
+
+fn has_counts(symbols: &Symbols, counts: (u32, u32)) -> bool {
+    symbols.name_count() == counts.0 && symbols.role_count() == counts.1
+}
+
 fn code_of(
     alloc: Global,
+    symbols: &mut Symbols,
     names: Option<&Names>,
-    form: Form,
-) -> Result<(u8, Option<u64>), NoMemory> {
-    let mut symbols = Symbols::new(alloc)?;
-    Ok(told(resolve(alloc, &mut symbols, names, form)))
-}
-
-// The first of these asks that has another code.
-fn first_wrong(
-    alloc: Global,
-    names: &Names,
-    cases: &[(&[u8], &[u8], &[u8], (u8, Option<u64>))],
-) -> Result<Option<usize>, NoMemory> {
-    for (i, (peer, left, right, wanted)) in cases.iter().enumerate() {
-        let form = ask_form(alloc, peer, left, right)?;
-        if code_of(alloc, Some(names), form)? != *wanted {
-            return Ok(Some(i));
-        }
-    }
-    Ok(None)
-}
-
-#[test]
-fn an_ask_is_refused_by_the_first_test(rt: HostRuntime) -> Result<(), Fail> {
-    let names = two_peers(rt.alloc())?;
-    let cases: [(&[u8], &[u8], &[u8], (u8, Option<u64>)); 4] = [
-        (b"There", b"A", b"(some r A)", (0, None)),
-        (b"Nowhere", b"A B", b"A", (7, None)),
-        (b"Here", b"A B", b"", (3, Some(0))),
-        (b"Here", b"A", b"(not top", (3, Some(1))),
-    ];
-    assert!(rt; first_wrong(rt.alloc(), &names, &cases)?.is_none());
-    Ok(())
-}
-
-fn code_of_peers(
-    alloc: Global,
-    names: Option<&Names>,
-    wanted: Items<Text>,
-) -> Result<(u8, Option<u64>), NoMemory> {
-    code_of(alloc, names, Form::Peers(wanted))
-}
-
-// The first of these declarations that has another code.
-fn first_wrong_peers(alloc: Global, cases: &[(&[&[u8]], u8)]) -> Result<Option<usize>, NoMemory> {
-    for (i, (names, wanted)) in cases.iter().enumerate() {
-        if code_of_peers(alloc, None, texts(alloc, names)?)? != (*wanted, None) {
-            return Ok(Some(i));
-        }
-    }
-    Ok(None)
-}
-
-// Whether at most so many peers can be declared.
-fn is_most(alloc: Global, count: u8) -> Result<bool, NoMemory> {
-    let most = code_of_peers(alloc, None, numbered(alloc, count)?)?;
-    let more = code_of_peers(alloc, None, numbered(alloc, count.saturating_add(1))?)?;
-    Ok(most == (0, None) && more == (6, None))
-}
-
-#[test]
-fn peers_are_1_to_64_different_names(rt: HostRuntime) -> Result<(), Fail> {
-    let cases: [(&[&[u8]], u8); 4] = [
-        (&[b"A", b"B"], 0),
-        (&[], 6),
-        (&[b"A", b"B", b"A"], 6),
-        (&[b"A", b"top"], 6),
-    ];
-    assert_eq!(rt; first_wrong_peers(rt.alloc(), &cases)?, None);
-    assert!(rt; is_most(rt.alloc(), 64)?);
-    Ok(())
-}
-
-// Whether peers are declared once, and before all that needs them.
-fn wants_peers_once(alloc: Global, names: &Names) -> Result<bool, NoMemory> {
-    let again = code_of_peers(alloc, Some(names), numbered(alloc, 2)?)?;
-    let first = code_of(alloc, None, Form::Versions)?;
-    Ok(again == (5, None) && first == (4, None))
-}
-
-#[test]
-fn peers_are_declared_once_and_first(rt: HostRuntime) -> Result<(), Fail> {
-    let names = two_peers(rt.alloc())?;
-    assert!(rt; wants_peers_once(rt.alloc(), &names)?);
-    Ok(())
-}
-
-fn is_rule(rules: &[Rule], from: u32) -> bool {
-    match rules {
-        [rule] => rule.from == from,
-        _ => false,
+    line: &[u8],
+) -> (u8, Option<u64>) {
+    match read_form(alloc, line) {
+        Ok(form) => told(resolve(alloc, symbols, names, form)),
+        Err(e) => cause(&e),
     }
 }
 
-// Whether the axiom says that name 1 is below what has role 0.
-fn is_that_axiom(axiom: &Axiom) -> bool {
-    matches!(axiom.left, Concept::Name(1)) && matches!(axiom.right, Concept::HasSome(0, _))
+/// 0 for a request, 254 for a put that is not the one of the table, 255 for want of memory, else the code.
+fn told(answer: Result<Request, WireErr>) -> (u8, Option<u64>) {
+    let code = match &answer {
+        Ok(request) => (if is_right(request) { 0 } else { 254 }, None),
+        Err(e) => cause(e),
+    };
+    drop(answer);
+    code
+}
+
+fn cause(e: &WireErr) -> (u8, Option<u64>) {
+    match e {
+        WireErr::Code { code, n } => (*code, *n),
+        WireErr::NoMemory => (255, None),
+    }
+}
+
+/// Whether a put is the one of the table.
+fn is_right(request: &Request) -> bool {
+    match request {
+        Request::Put { peer, version } => *peer == 0 && is_that_version(version),
+        _ => true,
+    }
 }
 
 fn is_that_version(version: &PeerVersion) -> bool {
@@ -192,98 +87,223 @@ fn is_that_version(version: &PeerVersion) -> bool {
     }
 }
 
-// Whether the answer is the put of two axioms and two rules of the test below.
-fn is_that_put(answer: &Result<Request, WireErr>) -> bool {
-    match answer {
-        Ok(request) => match request {
-            Request::Put { peer, version } => *peer == 0 && is_that_version(version),
-            _ => false,
-        },
-        Err(_) => false,
+fn is_rule(rules: &[Rule], from: u32) -> bool {
+    match rules {
+        [rule] => rule.from == from,
+        _ => false,
     }
 }
 
-fn that_put(alloc: Global) -> Result<Form, NoMemory> {
-    let axioms = texts(alloc, &[b"(implies A B)", b"(implies B (some r A))"])?;
-    let into = rule_form(alloc, b"There", b"C", b"A")?;
-    let onto = rule_form(alloc, b"Nowhere", b"top", b"D")?;
-    put_form(alloc, axioms, into, onto)
+/// Whether the axiom says that name 1 is below what has role 0.
+fn is_that_axiom(axiom: &Axiom) -> bool {
+    matches!(axiom.left, Concept::Name(1)) && matches!(axiom.right, Concept::HasSome(0, _))
 }
 
-fn has_counts(symbols: &Symbols, names: u32, roles: u32) -> bool {
-    symbols.name_count() == names && symbols.role_count() == roles
+fn two_peers(alloc: Global) -> Result<Names, NoMemory> {
+    let texts = texts(alloc, PEERS)?;
+    let names = names_of(alloc, &texts);
+    drop(texts);
+    names
 }
 
-// Whether that put is read, and its symbols are numbered in the order of its texts.
-fn reads_that_put(alloc: Global, names: &Names) -> Result<bool, NoMemory> {
-    let mut symbols = Symbols::new(alloc)?;
-    let form = that_put(alloc)?;
-    let is_read = gives_that_put(alloc, names, &mut symbols, form);
-    Ok(is_read && has_counts(&symbols, 4, 1))
+fn names_of(alloc: Global, texts: &Items<Text>) -> Result<Names, NoMemory> {
+    if are_peers(texts.as_slice()) {
+        Names::new(alloc, texts)
+    } else {
+        Err(NoMemory)
+    }
 }
 
-fn gives_that_put(alloc: Global, names: &Names, symbols: &mut Symbols, form: Form) -> bool {
-    let answer = resolve(alloc, symbols, Some(names), form);
-    is_that_put(&answer)
+const PEERS: &[&[u8]] = &[b"Here", b"There"];
+
+fn texts(alloc: Global, list: &[&[u8]]) -> Result<Items<Text>, NoMemory> {
+    let mut texts = Items::new(alloc);
+    for text in list {
+        texts.push(Items::from_slice(alloc, text)?)?;
+    }
+    Ok(texts)
 }
 
-// The third of its texts is cut, and the two before it have new symbols.
-fn cut_put(alloc: Global) -> Result<Form, NoMemory> {
-    let axioms = texts(alloc, &[b"(implies New (some r Old))"])?;
-    let into = rule_form(alloc, b"There", b"Newer", b"(not")?;
-    put_form(alloc, axioms, into, Items::new(alloc))
-}
+/// Two axioms and two rules, one of them from a peer that is not declared.
+const PUT: &[u8] =
+    br#"{"op":"put","peer":"Here","axioms":["(implies A B)","(implies B (some r A))"],
+"into":[{"from":"There","source":"C","target":"A"}],"onto":[{"from":"Nowhere","source":"top","target":"D"}]}"#;
 
-// Whether that one is refused, and leaves no symbols.
-fn refuses_cut_put(alloc: Global, names: &Names) -> Result<bool, NoMemory> {
-    let mut symbols = Symbols::new(alloc)?;
-    let form = cut_put(alloc)?;
-    let code = told(resolve(alloc, &mut symbols, Some(names), form));
-    Ok(code == (3, Some(2)) && has_counts(&symbols, 0, 0))
-}
+/// The third of its texts is cut, and the two before it have new symbols.
+const CUT_PUT: &[u8] = br#"{"op":"put","peer":"Here","axioms":["(implies New (some r Old))"],
+"into":[{"from":"There","source":"Newer","target":"(not"}]}"#;
+
+/// The most peers that are declared, 16 in a row.
+const MOST_PEERS: &[u8] = br#"{"op":"peers","names":[
+"p00","p01","p02","p03","p04","p05","p06","p07","p08","p09","p0a","p0b","p0c","p0d","p0e","p0f",
+"p10","p11","p12","p13","p14","p15","p16","p17","p18","p19","p1a","p1b","p1c","p1d","p1e","p1f",
+"p20","p21","p22","p23","p24","p25","p26","p27","p28","p29","p2a","p2b","p2c","p2d","p2e","p2f",
+"p30","p31","p32","p33","p34","p35","p36","p37","p38","p39","p3a","p3b","p3c","p3d","p3e","p3f"]}"#;
+
+/// One more.
+const MORE_PEERS: &[u8] = br#"{"op":"peers","names":[
+"p00","p01","p02","p03","p04","p05","p06","p07","p08","p09","p0a","p0b","p0c","p0d","p0e","p0f",
+"p10","p11","p12","p13","p14","p15","p16","p17","p18","p19","p1a","p1b","p1c","p1d","p1e","p1f",
+"p20","p21","p22","p23","p24","p25","p26","p27","p28","p29","p2a","p2b","p2c","p2d","p2e","p2f",
+"p30","p31","p32","p33","p34","p35","p36","p37","p38","p39","p3a","p3b","p3c","p3d","p3e","p3f",
+"p40"]}"#;
+
+const LINES: &[Line] = &[
+    Line {
+        is_declared: true,
+        line: br#"{"op":"ask","peer":"There","left":"A","right":"(some r A)","expansions":7}"#,
+        code: (0, None),
+        symbols: (1, 1),
+    },
+    Line {
+        is_declared: true,
+        line: br#"{"op":"ask","peer":"Nowhere","left":"A B","right":"A","expansions":7}"#,
+        code: (7, None),
+        symbols: (0, 0),
+    },
+    Line {
+        is_declared: true,
+        line: br#"{"op":"ask","peer":"Here","left":"A B","right":"","expansions":7}"#,
+        code: (3, Some(0)),
+        symbols: (0, 0),
+    },
+    Line {
+        is_declared: true,
+        line: br#"{"op":"ask","peer":"Here","left":"A","right":"(not top","expansions":7}"#,
+        code: (3, Some(1)),
+        symbols: (0, 0),
+    },
+    Line {
+        is_declared: false,
+        line: br#"{"op":"peers","names":["A","B"]}"#,
+        code: (0, None),
+        symbols: (0, 0),
+    },
+    Line {
+        is_declared: false,
+        line: br#"{"op":"peers","names":[]}"#,
+        code: (6, None),
+        symbols: (0, 0),
+    },
+    Line {
+        is_declared: false,
+        line: br#"{"op":"peers","names":["A","B","A"]}"#,
+        code: (6, None),
+        symbols: (0, 0),
+    },
+    Line {
+        is_declared: false,
+        line: br#"{"op":"peers","names":["A","top"]}"#,
+        code: (6, None),
+        symbols: (0, 0),
+    },
+    Line {
+        is_declared: false,
+        line: MOST_PEERS,
+        code: (0, None),
+        symbols: (0, 0),
+    },
+    Line {
+        is_declared: false,
+        line: MORE_PEERS,
+        code: (6, None),
+        symbols: (0, 0),
+    },
+    Line {
+        is_declared: true,
+        line: br#"{"op":"peers","names":["A","B"]}"#,
+        code: (5, None),
+        symbols: (0, 0),
+    },
+    Line {
+        is_declared: false,
+        line: br#"{"op":"versions"}"#,
+        code: (4, None),
+        symbols: (0, 0),
+    },
+    Line {
+        is_declared: true,
+        line: PUT,
+        code: (0, None),
+        symbols: (4, 1),
+    },
+    Line {
+        is_declared: true,
+        line: CUT_PUT,
+        code: (3, Some(2)),
+        symbols: (0, 0),
+    },
+];
 
 #[test]
-fn a_put_numbers_its_symbols_or_leaves_them(rt: HostRuntime) -> Result<(), Fail> {
-    let names = two_peers(rt.alloc())?;
-    assert!(rt; reads_that_put(rt.alloc(), &names)?);
-    assert!(rt; refuses_cut_put(rt.alloc(), &names)?);
-    Ok(())
+fn a_form_is_refused_by_the_first_test(rt: HostRuntime) -> Result<(), Failure> {
+    check(rt.alloc(), LINES)
 }
 
-// The code of a line in a new session, 0 where it is a request.
-fn code_of_line(alloc: Global, line: &[u8]) -> Result<u8, NoMemory> {
-    let mut symbols = Symbols::new(alloc)?;
-    let (code, _) = told(read_request(alloc, &mut symbols, None, line));
-    Ok(code)
+/// A line, of a part so many times and of another one as often, and its code where no peers are declared.
+struct Repeated {
+    first: &'static [u8],
+    last: &'static [u8],
+    times: u8,
+    code: u8,
 }
 
-#[test]
-fn a_line_is_read_to_its_request(rt: HostRuntime) -> Result<(), Fail> {
-    assert!(rt; code_of_line(rt.alloc(), br#"{"op":"peers","names":["a"]}"#)? == 0);
-    assert!(rt; code_of_line(rt.alloc(), br#"{"op":"peers","names":["top"]}"#)? == 17);
-    Ok(())
+impl Row for Repeated {
+    fn is_right(&self, alloc: Global) -> Result<bool, NoMemory> {
+        let line = line_of(alloc, self)?;
+        let is_right = has_code(alloc, line.as_slice(), self.code);
+        drop(line);
+        is_right
+    }
 }
 
-// Lists in lists, so deep.
-fn nested(alloc: Global, depth: u32) -> Result<Vec<u8>, NoMemory> {
+fn line_of(alloc: Global, row: &Repeated) -> Result<Vec<u8>, NoMemory> {
     let mut line = Vec::new(alloc);
-    for _ in 0..depth {
-        line.push(b'[')?;
+    for _ in 0..row.times {
+        line.extend_from_slice(row.first)?;
     }
-    for _ in 0..depth {
-        line.push(b']')?;
+    for _ in 0..row.times {
+        line.extend_from_slice(row.last)?;
     }
     Ok(line)
 }
 
-fn code_of_nested(alloc: Global, depth: u32) -> Result<u8, NoMemory> {
-    let line = nested(alloc, depth)?;
-    code_of_line(alloc, line.as_slice())
+/// Whether a line has this code in a new session.
+fn has_code(alloc: Global, line: &[u8], code: u8) -> Result<bool, NoMemory> {
+    let mut symbols = Symbols::new(alloc)?;
+    let answer = read_request(alloc, &mut symbols, None, line);
+    drop(symbols);
+    Ok(told(answer) == (code, None))
 }
 
+const REPEATED: &[Repeated] = &[
+    Repeated {
+        first: br#"{"op":"peers","#,
+        last: br#""names":["a"]}"#,
+        times: 1,
+        code: 0,
+    },
+    Repeated {
+        first: br#"{"op":"peers","#,
+        last: br#""names":["top"]}"#,
+        times: 1,
+        code: 17,
+    },
+    Repeated {
+        first: b"[",
+        last: b"]",
+        times: 127,
+        code: 2,
+    },
+    Repeated {
+        first: b"[",
+        last: b"]",
+        times: 128,
+        code: 1,
+    },
+];
+
 #[test]
-fn a_value_nests_at_most_127_deep(rt: HostRuntime) -> Result<(), Fail> {
-    assert!(rt; code_of_nested(rt.alloc(), 127)? == 2);
-    assert!(rt; code_of_nested(rt.alloc(), 128)? == 1);
-    Ok(())
+fn a_line_is_read_to_its_request(rt: HostRuntime) -> Result<(), Failure> {
+    check(rt.alloc(), REPEATED)
 }

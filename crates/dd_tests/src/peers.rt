@@ -1,69 +1,108 @@
-use dd_concept::{Concept, Items, NoMemory};
-use dd_peer::{PeerErr, PeerVersion, Rule, Shared};
+use crate::rows::{Failure, Row, check, check_one};
+use crate::versions::{shared_version, version};
+use dd_concept::NoMemory;
+use dd_peer::{PeerErr, PeerVersion, Shared};
 use std::alloc::Global;
-use std::test::Fail;
 
-fn rules(alloc: Global, froms: &[u32]) -> Result<Items<Rule>, NoMemory> {
-    let mut rules = Items::new(alloc);
-    for from in froms {
-        rules.push(Rule {
-            from: *from,
-            source: Concept::Name(*from),
-            target: Concept::Top,
-        })?;
+/// The into and onto rules of a version of the peer 0 of three, and what its check answers.
+struct Check {
+    into: &'static [(u32, u32, u32)],
+    onto: &'static [(u32, u32, u32)],
+    answer: Result<(), PeerErr>,
+}
+
+impl Row for Check {
+    fn is_right(&self, alloc: Global) -> Result<bool, NoMemory> {
+        let version = version(alloc, self.into, self.onto)?;
+        let is_right = answers(&version, self.answer);
+        drop(version);
+        Ok(is_right)
     }
-    Ok(rules)
 }
 
-fn version(alloc: Global, into: &[u32], onto: &[u32]) -> Result<PeerVersion, NoMemory> {
-    let into = rules(alloc, into)?;
-    Ok(PeerVersion {
-        axioms: Items::new(alloc),
-        into,
-        onto: rules(alloc, onto)?,
-    })
+fn answers(v: &PeerVersion, wanted: Result<(), PeerErr>) -> bool {
+    v.axioms.as_slice().is_empty()
+        && v.into.as_slice().len() < 100
+        && v.onto.as_slice().len() < 100
+        && v.check(3, 0) == wanted
 }
+
+const FROM_0: (u32, u32, u32) = (0, 5, 6);
+
+const FROM_1: (u32, u32, u32) = (1, 5, 6);
+
+const FROM_2: (u32, u32, u32) = (2, 5, 6);
+
+const FROM_3: (u32, u32, u32) = (3, 5, 6);
+
+const CROWD: &[(u32, u32, u32)] = &[FROM_1; 65];
+
+const MOST: &[(u32, u32, u32)] = &[FROM_1; 64];
+
+const CHECKS: &[Check] = &[
+    Check {
+        into: &[FROM_1, FROM_2],
+        onto: &[FROM_1],
+        answer: Ok(()),
+    },
+    Check {
+        into: &[FROM_1, FROM_3],
+        onto: &[FROM_1, FROM_0],
+        answer: Err(PeerErr::SamePeer { rule: 3 }),
+    },
+    Check {
+        into: &[FROM_1],
+        onto: &[FROM_2, FROM_3],
+        answer: Err(PeerErr::UnknownPeer { rule: 2 }),
+    },
+    Check {
+        into: CROWD,
+        onto: &[FROM_2],
+        answer: Err(PeerErr::TooManyRules { from: 1, count: 65 }),
+    },
+    Check {
+        into: &[FROM_2],
+        onto: CROWD,
+        answer: Err(PeerErr::TooManyRules { from: 1, count: 65 }),
+    },
+    Check {
+        into: MOST,
+        onto: MOST,
+        answer: Ok(()),
+    },
+];
 
 #[test]
-fn the_first_cause_is_told(rt: HostRuntime) -> Result<(), Fail> {
-    let crowd = [1; 65];
-    let table: [(&[u32], &[u32], Result<(), PeerErr>); 6] = [
-        (&[1, 2], &[1], Ok(())),
-        (&[1, 9], &[1, 0], Err(PeerErr::SamePeer { rule: 3 })),
-        (&[1], &[2, 3], Err(PeerErr::UnknownPeer { rule: 2 })),
-        (
-            &crowd,
-            &[2],
-            Err(PeerErr::TooManyRules { from: 1, count: 65 }),
-        ),
-        (
-            &[2],
-            &crowd,
-            Err(PeerErr::TooManyRules { from: 1, count: 65 }),
-        ),
-        (&crowd[..64], &crowd[..64], Ok(())),
-    ];
-    for (into, onto, wanted) in table {
-        let v = version(rt.alloc(), into, onto)?;
-        assert!(rt; v.into.as_slice().len() < 100 && v.onto.as_slice().len() < 100);
-        assert!(rt; v.axioms.as_slice().is_empty());
-        assert_eq!(rt; v.check(3, 0), wanted);
-    }
-    Ok(())
+fn the_first_cause_is_told(rt: HostRuntime) -> Result<(), Failure> {
+    check(rt.alloc(), CHECKS)
 }
 
-// Only a type that threads may pass on and share fits.
+/// Only a type that threads may pass on and share fits.
 fn crosses_threads<T: Send + Sync>(_value: &T) -> bool {
     true
 }
 
-#[test]
-fn owners_share_one_version(rt: HostRuntime) -> Result<(), Fail> {
-    let v = version(rt.alloc(), &[4, 5, 4], &[])?;
-    let first = Shared::new(rt.alloc(), v)?;
+fn is_that_version(shared: &Shared<PeerVersion>) -> bool {
+    crosses_threads(shared)
+        && shared.get().into_of(1, 1).is_some()
+        && shared.get().into_of(1, 2).is_none()
+}
+
+fn shares(first: &Shared<PeerVersion>) -> Result<bool, NoMemory> {
     let second = first.share()?;
-    assert!(rt; crosses_threads(&second));
-    assert!(rt; second.get().into_of(4, 1).is_some());
-    assert!(rt; second.get().into_of(4, 2).is_none());
-    Ok(())
+    let is_right = is_that_version(&second);
+    drop(second);
+    Ok(is_right)
+}
+
+fn owners_share(alloc: Global) -> Result<bool, NoMemory> {
+    let first = shared_version(alloc, &[FROM_1, FROM_2, FROM_1], &[FROM_1])?;
+    let is_right = shares(&first);
+    drop(first);
+    is_right
+}
+
+#[test]
+fn owners_share_one_version(rt: HostRuntime) -> Result<(), Failure> {
+    check_one(owners_share(rt.alloc()))
 }

@@ -1,108 +1,175 @@
-ghost use Rattle.std.specs.Prelude.{IsTrue};
-ghost use Rattle.dd_wire.specs.Replies.{IsPrintable};
-
-use dd_concept::{Items, NoMemory};
-use dd_text::is_name;
+use crate::rows::{Failure, Row, check};
+use dd_concept::NoMemory;
 use dd_wire::{
     BAD_CONCEPT, BAD_JSON, BAD_PEERS, BAD_PIN, BAD_SHAPE, BadWorld, CONCEPT_LIMIT, LINE_TOO_LONG,
     NO_PEERS, NOT_BUILT, PEERS_TWICE, Reply, SAME_PEER, SYMBOLS_FULL, TOO_MANY_AXIOMS,
     TOO_MANY_RULES, UNKNOWN_PEER, UNKNOWN_SOURCE, print_reply,
 };
 use std::alloc::Global;
-use std::test::Fail;
 
-// Whether this is the text of a reply that names a peer by a name, if at all.
-fn prints(alloc: Global, reply: &Reply, expected: &str) -> Result<bool, NoMemory> {
-    if !names_by_name(reply) {
-        return Ok(false);
-    }
-    let text = print_reply(alloc, reply)?;
-    Ok(text.as_slice() == expected.as_bytes())
+/// The code of a refusal, and the text of the reply.
+struct Code {
+    code: u8,
+    text: &'static str,
 }
 
-fn names_by_name(reply: &Reply) -> bool
-    ensures { IsTrue result → IsPrintable reply.now }
-{
-    match reply {
-        Reply::Put { put, .. } => is_name(put.as_slice()),
-        _ => true,
+impl Row for Code {
+    fn is_right(&self, alloc: Global) -> Result<bool, NoMemory> {
+        let text = refused(alloc, self.code)?;
+        Ok(text.as_slice() == self.text.as_bytes())
     }
 }
+
+fn refused(alloc: Global, code: u8) -> Result<Vec<u8>, NoMemory> {
+    let reply = Reply::Refused {
+        id: 1,
+        code,
+        n: None,
+    };
+    let text = print_reply(alloc, &reply);
+    drop(reply);
+    text
+}
+
+const CODES: &[Code] = &[
+    Code {
+        code: LINE_TOO_LONG,
+        text: r#"{"code":16,"error":"line_too_long","id":1}"#,
+    },
+    Code {
+        code: BAD_JSON,
+        text: r#"{"code":1,"error":"bad_json","id":1}"#,
+    },
+    Code {
+        code: BAD_SHAPE,
+        text: r#"{"code":2,"error":"bad_shape","id":1}"#,
+    },
+    Code {
+        code: NOT_BUILT,
+        text: r#"{"code":17,"error":"not_built","id":1}"#,
+    },
+    Code {
+        code: NO_PEERS,
+        text: r#"{"code":4,"error":"no_peers","id":1}"#,
+    },
+    Code {
+        code: PEERS_TWICE,
+        text: r#"{"code":5,"error":"peers_twice","id":1}"#,
+    },
+    Code {
+        code: BAD_PEERS,
+        text: r#"{"code":6,"error":"bad_peers","id":1}"#,
+    },
+    Code {
+        code: UNKNOWN_PEER,
+        text: r#"{"code":7,"error":"unknown_peer","id":1}"#,
+    },
+    Code {
+        code: BAD_CONCEPT,
+        text: r#"{"code":3,"error":"bad_concept","id":1}"#,
+    },
+    Code {
+        code: CONCEPT_LIMIT,
+        text: r#"{"code":11,"error":"concept_limit","id":1}"#,
+    },
+    Code {
+        code: SYMBOLS_FULL,
+        text: r#"{"code":12,"error":"symbols_full","id":1}"#,
+    },
+    Code {
+        code: SAME_PEER,
+        text: r#"{"code":8,"error":"same_peer","id":1}"#,
+    },
+    Code {
+        code: UNKNOWN_SOURCE,
+        text: r#"{"code":19,"error":"unknown_source","id":1}"#,
+    },
+    Code {
+        code: TOO_MANY_AXIOMS,
+        text: r#"{"code":9,"error":"too_many_axioms","id":1}"#,
+    },
+    Code {
+        code: TOO_MANY_RULES,
+        text: r#"{"code":10,"error":"too_many_rules","id":1}"#,
+    },
+    Code {
+        code: BAD_PIN,
+        text: r#"{"code":18,"error":"bad_pin","id":1}"#,
+    },
+];
 
 #[test]
-fn a_fault_has_its_name_and_its_place(rt: HostRuntime) -> Result<(), Fail> {
-    for (fault, expected) in [
-        (
-            BadWorld::Shape,
-            r#"{"check":"invalid","fault":"shape","id":4}"#,
-        ),
-        (
-            BadWorld::NotCounter,
-            r#"{"check":"invalid","fault":"not_counter","id":4}"#,
-        ),
-        (
-            BadWorld::Axiom { index: 1, peer: 0 },
-            r#"{"check":"invalid","fault":"axiom","id":4,"index":1,"peer":0}"#,
-        ),
-        (
-            BadWorld::Into { index: 0, peer: 63 },
-            r#"{"check":"invalid","fault":"into","id":4,"index":0,"peer":63}"#,
-        ),
-        (
-            BadWorld::Onto {
-                index: 4294967295,
-                peer: 2,
-            },
-            r#"{"check":"invalid","fault":"onto","id":4,"index":4294967295,"peer":2}"#,
-        ),
-    ] {
-        let reply = Reply::InvalidWorld { id: 4, fault };
-        assert!(rt; prints(rt.alloc(), &reply, expected)?);
-    }
-    Ok(())
+fn each_code_has_its_name(rt: HostRuntime) -> Result<(), Failure> {
+    check(rt.alloc(), CODES)
 }
 
-#[test]
-fn each_code_has_its_name(rt: HostRuntime) -> Result<(), Fail> {
-    for (code, expected) in [
-        (
-            LINE_TOO_LONG,
-            r#"{"code":16,"error":"line_too_long","id":1}"#,
-        ),
-        (BAD_JSON, r#"{"code":1,"error":"bad_json","id":1}"#),
-        (BAD_SHAPE, r#"{"code":2,"error":"bad_shape","id":1}"#),
-        (NOT_BUILT, r#"{"code":17,"error":"not_built","id":1}"#),
-        (NO_PEERS, r#"{"code":4,"error":"no_peers","id":1}"#),
-        (PEERS_TWICE, r#"{"code":5,"error":"peers_twice","id":1}"#),
-        (BAD_PEERS, r#"{"code":6,"error":"bad_peers","id":1}"#),
-        (UNKNOWN_PEER, r#"{"code":7,"error":"unknown_peer","id":1}"#),
-        (BAD_CONCEPT, r#"{"code":3,"error":"bad_concept","id":1}"#),
-        (
-            CONCEPT_LIMIT,
-            r#"{"code":11,"error":"concept_limit","id":1}"#,
-        ),
-        (SYMBOLS_FULL, r#"{"code":12,"error":"symbols_full","id":1}"#),
-        (SAME_PEER, r#"{"code":8,"error":"same_peer","id":1}"#),
-        (
-            UNKNOWN_SOURCE,
-            r#"{"code":19,"error":"unknown_source","id":1}"#,
-        ),
-        (
-            TOO_MANY_AXIOMS,
-            r#"{"code":9,"error":"too_many_axioms","id":1}"#,
-        ),
-        (
-            TOO_MANY_RULES,
-            r#"{"code":10,"error":"too_many_rules","id":1}"#,
-        ),
-        (BAD_PIN, r#"{"code":18,"error":"bad_pin","id":1}"#),
-    ] {
-        let reply = Reply::Refused {
-            id: 1,
-            code,
-            n: None,
-        };
-        assert!(rt; prints(rt.alloc(), &reply, expected)?);
+/// The fault of a world, and the text of the reply.
+struct Fault {
+    fault: BadWorld,
+    text: &'static str,
+}
+
+impl Row for Fault {
+    fn is_right(&self, alloc: Global) -> Result<bool, NoMemory> {
+        let text = invalid(alloc, again(&self.fault))?;
+        Ok(text.as_slice() == self.text.as_bytes())
     }
-    Ok(())
+}
+
+fn invalid(alloc: Global, fault: BadWorld) -> Result<Vec<u8>, NoMemory> {
+    let reply = Reply::InvalidWorld { id: 4, fault };
+    let text = print_reply(alloc, &reply);
+    drop(reply);
+    text
+}
+
+/// The same fault once more.
+fn again(fault: &BadWorld) -> BadWorld {
+    match fault {
+        BadWorld::Shape => BadWorld::Shape,
+        BadWorld::NotCounter => BadWorld::NotCounter,
+        BadWorld::Axiom { index, peer } => BadWorld::Axiom {
+            index: *index,
+            peer: *peer,
+        },
+        BadWorld::Into { index, peer } => BadWorld::Into {
+            index: *index,
+            peer: *peer,
+        },
+        BadWorld::Onto { index, peer } => BadWorld::Onto {
+            index: *index,
+            peer: *peer,
+        },
+    }
+}
+
+const FAULTS: &[Fault] = &[
+    Fault {
+        fault: BadWorld::Shape,
+        text: r#"{"check":"invalid","fault":"shape","id":4}"#,
+    },
+    Fault {
+        fault: BadWorld::NotCounter,
+        text: r#"{"check":"invalid","fault":"not_counter","id":4}"#,
+    },
+    Fault {
+        fault: BadWorld::Axiom { index: 1, peer: 0 },
+        text: r#"{"check":"invalid","fault":"axiom","id":4,"index":1,"peer":0}"#,
+    },
+    Fault {
+        fault: BadWorld::Into { index: 0, peer: 63 },
+        text: r#"{"check":"invalid","fault":"into","id":4,"index":0,"peer":63}"#,
+    },
+    Fault {
+        fault: BadWorld::Onto {
+            index: 4294967295,
+            peer: 2,
+        },
+        text: r#"{"check":"invalid","fault":"onto","id":4,"index":4294967295,"peer":2}"#,
+    },
+];
+
+#[test]
+fn a_fault_has_its_name_and_its_place(rt: HostRuntime) -> Result<(), Failure> {
+    check(rt.alloc(), FAULTS)
 }
