@@ -3,12 +3,25 @@ use dd_concept::{Axiom, Items, NoMemory, copy, copy_axiom, nnf, nnf_not, same};
 use dd_text::{REQUEST, Symbols, read_axiom};
 use std::alloc::Global;
 
-/// An axiom, and how its right side stands to the left one.
+/// What is asked of the two sides of an axiom.
+enum Asked {
+    /// Whether they are the same.
+    Same,
+    /// Whether the right one is the normal form of the left one.
+    Nnf,
+    /// Whether the right one is the normal form of the left one's complement.
+    NnfNot,
+    /// Whether a copy of the left one is the same as that.
+    LeftCopied,
+    /// Whether a copy of the axiom is the same as that.
+    Copied,
+}
+
+/// An axiom, and the answer to what is asked of its sides.
 struct Sides {
     text: &'static [u8],
-    are_same: bool,
-    is_nnf: bool,
-    is_nnf_not: bool,
+    asked: Asked,
+    answer: bool,
 }
 
 impl Row for Sides {
@@ -23,22 +36,22 @@ impl Row for Sides {
 fn reads(alloc: Global, symbols: &mut Symbols, sides: &Sides) -> Result<bool, NoMemory> {
     match read_axiom(alloc, symbols, REQUEST, sides.text) {
         Ok(axiom) => {
-            let stand = stand(alloc, &axiom, sides);
+            let answer = answer(alloc, &axiom, &sides.asked);
             drop(axiom);
-            stand
+            Ok(answer? == sides.answer)
         }
         Err(_) => Ok(false),
     }
 }
 
-fn stand(alloc: Global, axiom: &Axiom, sides: &Sides) -> Result<bool, NoMemory> {
-    Ok(
-        same(&axiom.left, &axiom.right) == sides.are_same
-            && has_nnf(alloc, axiom)? == sides.is_nnf
-            && has_nnf_not(alloc, axiom)? == sides.is_nnf_not
-            && is_left_copied(alloc, axiom)?
-            && is_copied(alloc, axiom)?,
-    )
+fn answer(alloc: Global, axiom: &Axiom, asked: &Asked) -> Result<bool, NoMemory> {
+    match asked {
+        Asked::Same => Ok(same(&axiom.left, &axiom.right)),
+        Asked::Nnf => has_nnf(alloc, axiom),
+        Asked::NnfNot => has_nnf_not(alloc, axiom),
+        Asked::LeftCopied => is_left_copied(alloc, axiom),
+        Asked::Copied => is_copied(alloc, axiom),
+    }
 }
 
 fn has_nnf(alloc: Global, axiom: &Axiom) -> Result<bool, NoMemory> {
@@ -69,24 +82,35 @@ fn is_copied(alloc: Global, axiom: &Axiom) -> Result<bool, NoMemory> {
     Ok(is_same)
 }
 
+/// Sides that differ in a role alone.
+const TWO_ROLES: &[u8] =
+    b"(implies (and A (some s (not (or B top)))) (and A (some r (not (or B top)))))";
+
 const SIDES: &[Sides] = &[
     Sides {
         text: b"(implies (and A (some r (not (or B top)))) (and A (some r (and (not B) bottom))))",
-        are_same: false,
-        is_nnf: true,
-        is_nnf_not: false,
+        asked: Asked::Nnf,
+        answer: true,
     },
     Sides {
         text: b"(implies (and A (some r (not (or B top)))) (or (not A) (all r (or B top))))",
-        are_same: false,
-        is_nnf: false,
-        is_nnf_not: true,
+        asked: Asked::NnfNot,
+        answer: true,
     },
     Sides {
-        text: b"(implies (and A (some s (not (or B top)))) (and A (some r (not (or B top)))))",
-        are_same: false,
-        is_nnf: false,
-        is_nnf_not: false,
+        text: TWO_ROLES,
+        asked: Asked::Same,
+        answer: false,
+    },
+    Sides {
+        text: TWO_ROLES,
+        asked: Asked::LeftCopied,
+        answer: true,
+    },
+    Sides {
+        text: TWO_ROLES,
+        asked: Asked::Copied,
+        answer: true,
     },
 ];
 

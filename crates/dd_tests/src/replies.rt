@@ -1,3 +1,5 @@
+ghost use Rattle.dd_wire.specs.Replies.{IsPrintable};
+
 use crate::rows::{Failure, Row, check};
 use dd_concept::NoMemory;
 use dd_wire::{
@@ -7,6 +9,13 @@ use dd_wire::{
 };
 use std::alloc::Global;
 
+fn prints(alloc: Global, reply: &Reply, text: &str) -> Result<bool, NoMemory>
+    requires { IsPrintable reply.now }
+{
+    let printed = print_reply(alloc, reply)?;
+    Ok(printed.as_slice() == text.as_bytes())
+}
+
 /// The code of a refusal, and the text of the reply.
 struct Code {
     code: u8,
@@ -15,20 +24,15 @@ struct Code {
 
 impl Row for Code {
     fn is_right(&self, alloc: Global) -> Result<bool, NoMemory> {
-        let text = refused(alloc, self.code)?;
-        Ok(text.as_slice() == self.text.as_bytes())
+        let reply = Reply::Refused {
+            id: 1,
+            code: self.code,
+            n: None,
+        };
+        let is_right = prints(alloc, &reply, self.text);
+        drop(reply);
+        is_right
     }
-}
-
-fn refused(alloc: Global, code: u8) -> Result<Vec<u8>, NoMemory> {
-    let reply = Reply::Refused {
-        id: 1,
-        code,
-        n: None,
-    };
-    let text = print_reply(alloc, &reply);
-    drop(reply);
-    text
 }
 
 const CODES: &[Code] = &[
@@ -111,16 +115,14 @@ struct Fault {
 
 impl Row for Fault {
     fn is_right(&self, alloc: Global) -> Result<bool, NoMemory> {
-        let text = invalid(alloc, again(&self.fault))?;
-        Ok(text.as_slice() == self.text.as_bytes())
+        let reply = Reply::InvalidWorld {
+            id: 4,
+            fault: again(&self.fault),
+        };
+        let is_right = prints(alloc, &reply, self.text);
+        drop(reply);
+        is_right
     }
-}
-
-fn invalid(alloc: Global, fault: BadWorld) -> Result<Vec<u8>, NoMemory> {
-    let reply = Reply::InvalidWorld { id: 4, fault };
-    let text = print_reply(alloc, &reply);
-    drop(reply);
-    text
 }
 
 /// The same fault once more.

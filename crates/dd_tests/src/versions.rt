@@ -22,10 +22,11 @@ pub fn version(
     onto: &[(u32, u32, u32)],
 ) -> Result<PeerVersion, NoMemory> {
     let into = rules(alloc, into)?;
+    let onto = rules(alloc, onto)?;
     Ok(PeerVersion {
         axioms: Items::new(alloc),
         into,
-        onto: rules(alloc, onto)?,
+        onto,
     })
 }
 

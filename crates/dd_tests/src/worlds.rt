@@ -4,7 +4,7 @@ use crate::rows::{Failure, Row, check};
 use crate::versions::shared_version;
 use dd_concept::{Concept, Items, NoMemory};
 use dd_interp::Interp;
-use dd_peer::{PeerVersion, Pinned, Query};
+use dd_peer::{PeerVersion, Pinned, Query, Shared};
 use dd_world::{World, WorldFault, check_world};
 use std::alloc::Global;
 
@@ -82,19 +82,33 @@ const RULES: &[((u32, u32, u32), (u32, u32, u32))] = &[
     ((0, B, H), (0, A, G)),
 ];
 
+fn add_peer(
+    alloc: Global,
+    peers: &mut Items<Shared<PeerVersion>>,
+    into: (u32, u32, u32),
+    onto: (u32, u32, u32),
+) -> Result<(), NoMemory> {
+    peers.push(shared_version(alloc, &[into], &[onto])?)
+}
+
 fn two_peers(alloc: Global) -> Result<Pinned, NoMemory> {
     let mut peers = Items::new(alloc);
     for (into, onto) in RULES {
-        peers.push(shared_version(alloc, &[*into], &[*onto])?)?;
+        add_peer(alloc, &mut peers, *into, *onto)?;
     }
     Ok(Pinned { peers })
 }
 
-/// One element, in these names.
-fn local(alloc: Global, names: &[(u32, u32)]) -> Result<Interp, NoMemory> {
-    Ok(Interp {
+/// Adds one element, in these names.
+fn add_local(
+    alloc: Global,
+    locals: &mut Items<Interp>,
+    names: &[(u32, u32)],
+) -> Result<(), NoMemory> {
+    let names = Items::from_slice(alloc, names)?;
+    locals.push(Interp {
         size: 1,
-        names: Items::from_slice(alloc, names)?,
+        names,
         roles: Items::new(alloc),
     })
 }
@@ -104,17 +118,15 @@ fn world_of(
     links: &[(u32, u32, u32, u32)],
     names: &[&[(u32, u32)]],
 ) -> Result<World, NoMemory> {
+    let links = Items::from_slice(alloc, links)?;
     let locals = locals(alloc, names)?;
-    Ok(World {
-        locals,
-        links: Items::from_slice(alloc, links)?,
-    })
+    Ok(World { locals, links })
 }
 
 fn locals(alloc: Global, names: &[&[(u32, u32)]]) -> Result<Items<Interp>, NoMemory> {
     let mut locals = Items::new(alloc);
     for each in names {
-        locals.push(local(alloc, each)?)?;
+        add_local(alloc, &mut locals, each)?;
     }
     Ok(locals)
 }
