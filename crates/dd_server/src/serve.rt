@@ -33,7 +33,11 @@ pub fn serve_alone<S: Source, K: Sink>(alloc: Global, source: &mut S, sink: &mut
     ensures writes { K.fault_count sink.old ≤ K.fault_count sink.new }
 {
     match Session::new(alloc) {
-        Ok(mut session) => read_lines(alloc, &mut session, source, sink),
+        Ok(mut session) => {
+            let status = read_lines(alloc, &mut session, source, sink);
+            drop(session);
+            status
+        }
         Err(_) => Status::Memory,
     }
 }

@@ -269,6 +269,8 @@ impl Session {
         ensures printable { IfOk result IsPrintable }
     {
         let reply = self.reply_to_check(alloc, id, &query, &pin, &cert);
+        drop(query);
+        drop(cert);
         self.symbols.back(mark);
         reply
     }

@@ -16,8 +16,8 @@ const MOST_SYMBOLS: usize = 65_536;
 /// The names and the roles that have occurred, each with its number: its position among its kind, from 0.
 #[derive(Drop)]
 pub struct Symbols {
-    names: IndexSet<Vec<u8>>,
-    roles: IndexSet<Vec<u8>>,
+    names: Box<IndexSet<Vec<u8>>>,
+    roles: Box<IndexSet<Vec<u8>>>,
 }
 
 impl Model for Symbols {
@@ -27,9 +27,9 @@ impl Model for Symbols {
 
     ghost Value = { SymbolLists };
 
-    ghost view = { λ s. record { names = texts_of s.names.keys; roles = texts_of s.roles.keys } };
+    ghost view = { λ s. record { names = texts_of s.names.value.keys; roles = texts_of s.roles.value.keys } };
 
-    ghost invariant = { λ s. (index_set_len s.names + index_set_len s.roles ≤ 65536) × IsUnique same_text s.names × IsUnique same_text s.roles × IsTrue (are_names (texts_of s.names.keys)) × IsTrue (are_names (texts_of s.roles.keys)) };
+    ghost invariant = { λ s. (index_set_len s.names.value + index_set_len s.roles.value ≤ 65536) × IsUnique same_text s.names.value × IsUnique same_text s.roles.value × IsTrue (are_names (texts_of s.names.value.keys)) × IsTrue (are_names (texts_of s.roles.value.keys)) };
 }
 
 /// How many names and how many roles there were at one moment.
@@ -57,8 +57,8 @@ impl Symbols {
         ensures roles { IfOk result (λ s. s.roles ≡ []) }
     {
         Ok(Symbols {
-            names: IndexSet::new(alloc),
-            roles: IndexSet::new(alloc),
+            names: Box::new(alloc, IndexSet::new(alloc))?,
+            roles: Box::new(alloc, IndexSet::new(alloc))?,
         })
     }
 

@@ -25,7 +25,7 @@ pub enum Request {
 }
 
 /// Why a line is no request.
-#[derive(Drop)]
+#[derive(Debug, Drop)]
 pub enum WireErr {
     /// The code of the first test that fails, with a number where the code has one.
     Code { code: u8, n: Option<u64> },

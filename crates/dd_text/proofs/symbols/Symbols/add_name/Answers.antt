@@ -15,6 +15,6 @@ pub returns-clause-full : goal.returns-clause-full
 returns-clause-full c =
     let s = c.self.inside in
     let named : names_a_thing c.args.text.now ≡ true = cc in
-    let count : length s.names.keys + c.len-others.result ≡ symbol_count c.args.self.now =
-    (omega (arith, c.len-others.ensures.len, length-map s.names.keys (λ v. v.items), length-map s.roles.keys (λ v. v.items))) ∙ ap symbol_count c.self.view_is in
+    let count : length s.names.value.keys + c.len-others.result ≡ symbol_count c.args.self.now =
+    (omega (arith, c.len-others.ensures.len, length-map s.names.value.keys (λ v. v.items), length-map s.roles.value.keys (λ v. v.items))) ∙ ap symbol_count c.self.view_is in
     told-named c.args.text.now _ _ _ _ named count (ap (λ (l : SymbolLists). l.names) c.self.view_is) c.add_text.ensures.full

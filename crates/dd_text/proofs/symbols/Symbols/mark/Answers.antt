@@ -8,9 +8,9 @@ pub returns-clause-numbering : goal.returns-clause-numbering
 returns-clause-numbering c =
     let s = c.self.inside in
     subst IsNumbering c.self.view_is (record {
-      few = omega (arith, c.self.invariant.0, length-map s.names.keys (λ v. v.items), length-map s.roles.keys (λ v. v.items));
-      names = IsWithoutRepeats-from_IsDistinct (λ v. v.items) s.names.keys c.self.invariant.1;
-      roles = IsWithoutRepeats-from_IsDistinct (λ v. v.items) s.roles.keys c.self.invariant.2;
+      few = omega (arith, c.self.invariant.0, length-map s.names.value.keys (λ v. v.items), length-map s.roles.value.keys (λ v. v.items));
+      names = IsWithoutRepeats-from_IsDistinct (λ v. v.items) s.names.value.keys c.self.invariant.1;
+      roles = IsWithoutRepeats-from_IsDistinct (λ v. v.items) s.roles.value.keys c.self.invariant.2;
       names_named = c.self.invariant.3;
       roles_named = c.self.invariant.4;
     })
