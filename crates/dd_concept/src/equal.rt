@@ -2,7 +2,9 @@ ghost use Rattle.std.specs.Prelude.{◌≡◌, ◌↔◌, IfOk, IsTrue};
 
 use crate::NoMemory;
 use crate::concept::{Axiom, Concept};
-use crate::construct::{conjunction, disjunction, existential, negation, universal};
+use crate::construct::{
+    conjunction_if_made, disjunction_if_made, existential, negation, universal,
+};
 use std::alloc::Global;
 
 /// Whether two concepts are the same tree.
@@ -31,8 +33,16 @@ pub fn copy(alloc: Global, c: &Concept) -> Result<Concept, NoMemory>
         Concept::Bottom => Ok(Concept::Bottom),
         Concept::Name(n) => Ok(Concept::Name(*n)),
         Concept::Not(d) => negation(alloc, copy(alloc, d.get())?),
-        Concept::And(d, e) => conjunction(alloc, copy(alloc, d.get())?, copy(alloc, e.get())?),
-        Concept::Or(d, e) => disjunction(alloc, copy(alloc, d.get())?, copy(alloc, e.get())?),
+        Concept::And(d, e) => conjunction_if_made(
+            alloc,
+            copy(alloc, d.get())?,
+            copy(alloc, e.get()),
+        ),
+        Concept::Or(d, e) => disjunction_if_made(
+            alloc,
+            copy(alloc, d.get())?,
+            copy(alloc, e.get()),
+        ),
         Concept::HasSome(r, d) => existential(alloc, *r, copy(alloc, d.get())?),
         Concept::HasAll(r, d) => universal(alloc, *r, copy(alloc, d.get())?),
     }

@@ -1,5 +1,5 @@
 -- What a session promises, from the bytes read to the bytes given.
-use Rattle.std.specs.Prelude.{◌≡◌, ℕ, ◌<◌, ◌≤◌, ◌⊎◌, List, [], ◌∷◌, ◌++◌, length, Option, Some, IfSome, ⊤}
+use Rattle.std.specs.Prelude.{◌≡◌, ℕ, ◌<◌, ◌≤◌, ◌⊎◌, List, [], ◌++◌, length, Option, Some, IfSome, ⊤}
 use Rattle.dd_lines.specs.Outside.{Rose, Gives, GivesFront}
 use Rattle.dd_wire.specs.declared.reply.Reply.{Reply}
 use Rattle.dd_server.specs.Session.{Session, written}

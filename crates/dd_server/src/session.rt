@@ -110,7 +110,11 @@ impl Session {
         match request {
             Request::Peers(names) => self.declare(alloc, id, names),
             Request::Put { peer, version } => self.put(alloc, id, mark, peer, version),
-            Request::Ask { query, .. } => self.ask(alloc, id, &query),
+            Request::Ask { query, .. } => {
+                let reply = self.ask(alloc, id, &query);
+                drop(query);
+                reply
+            }
             Request::Check { query, pin, cert } => self.check(alloc, id, mark, query, pin, cert),
             Request::Versions => Ok(refused(id, NOT_BUILT)),
         }

@@ -114,6 +114,7 @@ fn reply_to_request(
         Err(e) => return refused_line(id, e),
     };
     if !session.is_built(&form) {
+        drop(form);
         return Ok(refused(id, NOT_BUILT));
     }
     session.accept(alloc, id, form)

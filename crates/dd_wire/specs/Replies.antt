@@ -47,16 +47,16 @@ fault_data id (fault.Axiom index peer) = placed_fault (codes "axiom") id index p
 fault_data id (fault.Into index peer) = placed_fault (codes "into") id index peer
 fault_data id (fault.Onto index peer) = placed_fault (codes "onto") id index peer
 
--- the same beside members that are there
+-- members with one more, at its place by name, that is there only where it has a value
 abbrev pub put_maybe : List ℕ → Option ℕ → Members → Members
 put_maybe key None ms = ms
 put_maybe key (Some n) ms = member_put key (whole_number n) ms
 
--- the outcome of a check, and the number of its request
+-- the members of a reply to a check with this outcome, to the request with this number
 abbrev pub checked : List ℕ → ℕ → Members
 checked outcome id = member (codes "check") (string outcome) (member (codes "id") (whole_number id) no_members)
 
--- where a certificate cannot be read: its number or its text
+-- where a certificate cannot be read: a number that is too large, with its place, or the place of a text
 abbrev pub unread_number : ℕ → ℕ → ℕ → Data
 unread_number place value id = object (member (codes "check") (string (codes "unreadable")) (member (codes "id") (whole_number id)
     (member (codes "place") (whole_number place) (member (codes "value") (whole_number value) no_members))))
@@ -69,10 +69,8 @@ unread_text index id = object (member (codes "check") (string (codes "unreadable
 abbrev pub unread_data : ℕ → Unread → Data
 unread_data id (unread.Field field) = object (member (codes "check") (string (codes "unreadable")) (member (codes "field") (string field.now)
     (member (codes "id") (whole_number id) no_members)))
-unread_data id (unread.Place place value) = object (member (codes "check") (string (codes "unreadable")) (member (codes "id") (whole_number id)
-    (member (codes "place") (whole_number place) (member (codes "value") (whole_number value) no_members))))
-unread_data id (unread.Text index) = object (member (codes "check") (string (codes "unreadable")) (member (codes "id") (whole_number id)
-    (member (codes "text") (whole_number index) no_members)))
+unread_data id (unread.Place place value) = unread_number place value id
+unread_data id (unread.Text index) = unread_text index id
 
 abbrev pub reply_data : Reply → Data
 reply_data (Refused id code n) = object (member (codes "code") (whole_number code) (member (codes "error") (string (error_name code))

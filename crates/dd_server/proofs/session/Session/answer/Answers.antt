@@ -27,8 +27,8 @@ pub returns-in-Put-clause-does : goal.returns-in-Put-clause-does
 returns-in-Put-clause-does c = same_request c.put.result (state_of c.args.self.now) (state_of c.put.new.self) c.args.id c.args.self.now.symbols c.args.mark c.args.request _ c.in-Put.is c.put.ensures.does
 
 pub returns-in-Ask-clause-does : goal.returns-in-Ask-clause-does
-returns-in-Ask-clause-does c = same_request c.ask.result (state_of c.args.self.now) (state_of c.ask.new.self) c.args.id c.args.self.now.symbols c.args.mark c.args.request _ c.in-Ask.is
-    (asked c.ask.result (state_of c.args.self.now) (state_of c.ask.new.self) c.args.id c.args.self.now.symbols c.args.mark c.in-Ask.query c.in-Ask.expansions c.in-Ask.verdicts c.ask.ensures.does)
+returns-in-Ask-clause-does c = same_request c.ask-reply.result (state_of c.args.self.now) (state_of c.ask-reply.new.self) c.args.id c.args.self.now.symbols c.args.mark c.args.request _ c.in-Ask.is
+    (asked c.ask-reply.result (state_of c.args.self.now) (state_of c.ask-reply.new.self) c.args.id c.args.self.now.symbols c.args.mark c.in-Ask.query c.in-Ask.expansions c.in-Ask.verdicts c.ask-reply.ensures.does)
 
 pub returns-in-Check-clause-does : goal.returns-in-Check-clause-does
 returns-in-Check-clause-does c = same_request c.check.result (state_of c.args.self.now) (state_of c.check.new.self) c.args.id c.args.self.now.symbols c.args.mark c.args.request _ c.in-Check.is c.check.ensures.does
