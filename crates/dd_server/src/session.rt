@@ -179,7 +179,7 @@ impl Session {
         ensures stores { IfOk result (PutBy None (state_of self.old) id self.old.symbols peer version (state_of self.new)) }
         ensures printable { IfOk result IsPrintable }
     {
-        let put = self.name_of(alloc, peer)?;
+        let put = self.peer_name(alloc, peer)?;
         self.put = Some(Version::new(alloc, version)?);
         Ok(Reply::Put {
             id,
@@ -189,7 +189,7 @@ impl Session {
     }
 
     /// The name of a peer.
-    fn name_of(&self, alloc: Global, peer: u32) -> Result<Text, NoMemory>
+    fn peer_name(&self, alloc: Global, peer: u32) -> Result<Text, NoMemory>
         requires declared { peer < length (names_of (state_of self.now)) }
         ensures name { IfOk result (λ name. slice_get (names_of (state_of self.now)) peer ≡ Some name) }
         ensures named { IfOk result (λ name. IsTrue (names_a_thing name)) }
