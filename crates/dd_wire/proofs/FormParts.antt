@@ -7,7 +7,8 @@ use Rattle.serde_json.specs.Data.{Data}
 use Rattle.serde_json.specs.Find.{get}
 use Rattle.dd_json.specs.Members.{◌>>=◌, text_at, listed_at, maybe_number_at, indexes_at, presence, sized}
 use Rattle.dd_wire.specs.declared.form.RuleForm.{RuleForm}
-use Rattle.dd_wire.specs.Forms.{Written, put, ask, check, says, form_by, form_of, peers_of, versions_of, three_texts_at, rule_of, rules_at, both_rules_of, put_of, budgets_of, ask_of, check_of}
+use Rattle.dd_wire.specs.Forms.{Written, put, ask, check, says, form_by, form_of, peers_of, versions_of, rule_of, rules_at, put_of, ask_of, check_of}
+use Rattle.dd_wire.specs.Steps.{three_texts_at, both_rules_of, budgets_of}
 
 -- ---- parts that are found, or one that is not
 

@@ -1,13 +1,10 @@
 -- Which forms of requests are accepted so far, by the peers that are declared.
 use Rattle.std.specs.Prelude.{ℕ, Bool, false, true, not, ◌&&◌, ◌==◌, is_some, List, [], ◌∷◌, length, Option, None, Some, codes}
 use Rattle.std.specs.List.{list_all}
-use Rattle.std.specs.Option.{option_map_or}
-use Rattle.std.specs.Str.{bytes_eq}
 use Rattle.serde_json.specs.Data.{Data}
-use Rattle.dd_json.specs.Members.{text_at}
 use Rattle.dd_text.specs.Names.{names_a_thing}
 use Rattle.dd_text.specs.Symbols.{has_text}
-use Rattle.dd_wire.specs.Forms.{Written, peers, put, ask, check, versions}
+use Rattle.dd_wire.specs.Forms.{Written, peers, put, ask, check, versions, says}
 
 abbrev pub is_declared : Option (List (List ℕ)) → List ℕ → Bool
 is_declared None peer = false
@@ -23,7 +20,7 @@ is_empty (x ∷ xs) = false
 
 -- an object that says that it is a derivation
 abbrev pub is_derivation : Data → Bool
-is_derivation cert = option_map_or (λ kind. bytes_eq kind (codes "yes")) (text_at (codes "kind") cert) false
+is_derivation cert = says (codes "kind") (codes "yes") cert
 
 -- The first declaration, of one name; puts without rules, asks between names without budgets, and checks of what is no
 -- derivation, each of a declared peer.

@@ -30,14 +30,6 @@ written_of Versions = versions
 abbrev pub says : List ℕ → List ℕ → Data → Bool
 says key text d = option_map_or (λ said. bytes_eq said text) (text_at key d) false
 
--- three members that are strings
-unfoldable pub three_texts_at : List ℕ → List ℕ → List ℕ → Data → Option (List ℕ × List ℕ × List ℕ)
-three_texts_at first second third d = do
-  x ← text_at first d
-  y ← text_at second d
-  z ← text_at third d
-  Some (x, y, z)
-
 -- {"from":P,"source":C,"target":C}
 unfoldable pub rule_of : Data → Option RuleForm
 rule_of d = do
@@ -62,13 +54,6 @@ peers_of d = do
   size ← sized 2 d
   Some (peers names)
 
--- the into rules and the onto rules
-unfoldable pub both_rules_of : Data → Option (List RuleForm × List RuleForm)
-both_rules_of d = do
-  into ← rules_at (codes "into") d
-  onto ← rules_at (codes "onto") d
-  Some (into, onto)
-
 -- {"op":"put","peer":P}, and lists of axioms, of into rules and of onto rules, each of which may be absent
 unfoldable pub put_of : Data → Option Written
 put_of d = do
@@ -78,14 +63,6 @@ put_of d = do
   onto ← rules_at (codes "onto") d
   size ← sized (2 + presence (codes "axioms") d + presence (codes "into") d + presence (codes "onto") d) d
   Some (put peer axioms into onto)
-
--- the two budgets of an ask, which has no other members
-unfoldable pub budgets_of : Data → Option (Option ℕ × Option ℕ)
-budgets_of d = do
-  expansions ← maybe_number_at (codes "expansions") d
-  verdicts ← maybe_number_at (codes "verdicts") d
-  size ← sized (4 + presence (codes "expansions") d + presence (codes "verdicts") d) d
-  Some (expansions, verdicts)
 
 -- {"op":"ask","peer":P,"left":C,"right":C}, with or without the two budgets
 unfoldable pub ask_of : Data → Option Written

@@ -7,3 +7,4 @@ pub mod Texts
 pub mod Requests
 pub mod Progress
 pub mod Replies
+pub mod Steps

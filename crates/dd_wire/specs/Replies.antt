@@ -1,6 +1,5 @@
 -- The text of a reply: compact JSON, its members in the byte order of their names.
 use Rattle.std.specs.Prelude.{ℕ, List, [], ◌∷◌, map, Bool, true, false, Option, None, Some, IsTrue, ⊤, codes}
-use Rattle.serde_json.specs.Data.{put as member_put}
 use Rattle.serde_json.specs.Data.{Data, unsigned, number, string, array, object, Items, no_items, item, Members, no_members, member}
 use Rattle.serde_json.specs.Written.{compact_text}
 use Rattle.dd_text.specs.Names.{names_a_thing}
@@ -46,15 +45,6 @@ fault_data id fault.NotCounter = plain_fault (codes "not_counter") id
 fault_data id (fault.Axiom index peer) = placed_fault (codes "axiom") id index peer
 fault_data id (fault.Into index peer) = placed_fault (codes "into") id index peer
 fault_data id (fault.Onto index peer) = placed_fault (codes "onto") id index peer
-
--- members with one more, at its place by name, that is there only where it has a value
-abbrev pub put_maybe : List ℕ → Option ℕ → Members → Members
-put_maybe key None ms = ms
-put_maybe key (Some n) ms = member_put key (whole_number n) ms
-
--- the members of a reply to a check with this outcome, to the request with this number
-abbrev pub checked : List ℕ → ℕ → Members
-checked outcome id = member (codes "check") (string outcome) (member (codes "id") (whole_number id) no_members)
 
 -- where a certificate cannot be read: a number that is too large, with its place, or the place of a text
 abbrev pub unread_number : ℕ → ℕ → ℕ → Data

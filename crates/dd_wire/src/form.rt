@@ -1,7 +1,8 @@
 ghost use Rattle.std.specs.Prelude.{◌≡◌};
 ghost use Rattle.serde_json.specs.View.{view, items_view};
 ghost use Rattle.dd_json.specs.Gives.{Gives, GivesSeen};
-ghost use Rattle.dd_wire.specs.Forms.{written_of, says, rule_of, rules_of, rules_at, peers_of, put_of, both_rules_of, ask_of, budgets_of, three_texts_at, check_of, versions_of, form_of};
+ghost use Rattle.dd_wire.specs.Forms.{written_of, says, rule_of, rules_of, rules_at, peers_of, put_of, ask_of, check_of, versions_of, form_of};
+ghost use Rattle.dd_wire.specs.Steps.{both_rules_of, budgets_of, three_texts_at};
 
 use dd_concept::Items;
 use dd_json::{
@@ -102,7 +103,7 @@ fn put(alloc: Global, value: &Value) -> Result<Form, ShapeErr>
 }
 
 /// The into rules and the onto rules.
-#[tactic(auto, unfolding(crate::specs::Forms::both_rules_of))]
+#[tactic(auto, unfolding(crate::specs::Steps::both_rules_of))]
 fn both_rules(alloc: Global, value: &Value) -> Result<(Items<RuleForm>, Items<RuleForm>), ShapeErr>
     ensures { Gives result (both_rules_of (view value.now)) }
 {
@@ -126,7 +127,7 @@ fn ask(alloc: Global, value: &Value) -> Result<Form, ShapeErr>
 }
 
 /// The budgets of an ask, which has no other members.
-#[tactic(auto, unfolding(crate::specs::Forms::budgets_of))]
+#[tactic(auto, unfolding(crate::specs::Steps::budgets_of))]
 fn budgets(value: &Value) -> Result<(Option<u64>, Option<u64>), ShapeErr>
     ensures { Gives result (budgets_of (view value.now)) }
 {
@@ -199,7 +200,7 @@ fn rule(alloc: Global, value: &Value) -> Result<RuleForm, ShapeErr>
 }
 
 /// Three members that are strings.
-#[tactic(auto, unfolding(crate::specs::Forms::three_texts_at))]
+#[tactic(auto, unfolding(crate::specs::Steps::three_texts_at))]
 fn three_texts(
     alloc: Global,
     value: &Value,

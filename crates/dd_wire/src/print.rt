@@ -2,7 +2,8 @@ ghost use Rattle.std.specs.Prelude.{◌≡◌, IfOk, IsTrue, codes};
 ghost use Rattle.serde_json.specs.Data.{put, string, object, member, no_members};
 ghost use Rattle.serde_json.specs.View.{view, members_view};
 ghost use Rattle.dd_text.specs.Names.{names_a_thing};
-ghost use Rattle.dd_wire.specs.Replies.{numbers, whole_number, put_maybe, verdict_name, checked, unread_number, unread_text, placed_fault, fault_data, unread_data, reply_data, reply_text, IsPrintable};
+ghost use Rattle.dd_wire.specs.Replies.{numbers, whole_number, verdict_name, unread_number, unread_text, placed_fault, fault_data, unread_data, reply_data, reply_text, IsPrintable};
+ghost use Rattle.dd_wire.specs.Steps.{put_maybe, outcome_members};
 
 use crate::code::name_of;
 use crate::reply::{BadWorld, Reply, Unread};
@@ -119,7 +120,7 @@ fn check_with(
     name: &str,
     text: &str,
 ) -> Result<Value, NoMemory>
-    ensures { IfOk result (λ value. view value ≡ object (put name.now (string text.now) (checked outcome.now id))) }
+    ensures { IfOk result (λ value. view value ≡ object (put name.now (string text.now) (outcome_members outcome.now id))) }
 {
     let reply = of_check(alloc, id, outcome)?;
     let reply = with_text(alloc, reply, name, text)?;
@@ -178,7 +179,7 @@ fn of_request(alloc: Global, id: u64) -> Result<Map<String, Value>, NoMemory>
 
 /// The members of a reply to a check.
 fn of_check(alloc: Global, id: u64, outcome: &str) -> Result<Map<String, Value>, NoMemory>
-    ensures { IfOk result (λ new. members_view new.entries ≡ checked outcome.now id) }
+    ensures { IfOk result (λ new. members_view new.entries ≡ outcome_members outcome.now id) }
 {
     let reply = of_request(alloc, id)?;
     with_text(alloc, reply, "check", outcome)
