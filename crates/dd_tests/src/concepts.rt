@@ -1,3 +1,5 @@
+ghost use Rattle.std.specs.Prelude.{⊤};
+
 use crate::rows::{Failure, Row, check, check_one};
 use dd_concept::{Axiom, Items, NoMemory, copy, copy_axiom, nnf, nnf_not, same};
 use dd_text::{REQUEST, Symbols, read_axiom};
@@ -25,6 +27,8 @@ struct Sides {
 }
 
 impl Row for Sides {
+    ghost answers = { λ row yes. ⊤ };
+
     fn is_right(&self, alloc: Global) -> Result<bool, NoMemory> {
         let mut symbols = Symbols::new(alloc)?;
         let is_right = reads(alloc, &mut symbols, self);

@@ -22,13 +22,11 @@ mod members;
 mod peers;
 #[cfg(test)]
 mod replies;
-#[cfg(test)]
-mod rows;
+pub mod rows;
 #[cfg(test)]
 mod symbols;
 #[cfg(test)]
 mod texts;
-#[cfg(test)]
-mod versions;
+pub mod versions;
 #[cfg(test)]
 mod worlds;

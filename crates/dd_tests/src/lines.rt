@@ -1,4 +1,4 @@
-ghost use Rattle.std.specs.Prelude.{◌≤◌};
+ghost use Rattle.std.specs.Prelude.{◌≤◌, ⊤};
 
 use crate::rows::{Failure, Row, check, check_one};
 use dd_concept::NoMemory;
@@ -15,6 +15,8 @@ struct Cut {
 }
 
 impl Row for Cut {
+    ghost answers = { λ row yes. ⊤ };
+
     fn is_right(&self, alloc: Global) -> Result<bool, NoMemory> {
         Ok(is_cut(alloc, self, 1)? && is_cut(alloc, self, 3)? && is_cut(alloc, self, 100)?)
     }

@@ -1,3 +1,5 @@
+ghost use Rattle.std.specs.Prelude.{⊤};
+
 use crate::rows::{Failure, Row, check, check_one};
 use crate::versions::{shared_version, version};
 use dd_concept::NoMemory;
@@ -12,6 +14,8 @@ struct Check {
 }
 
 impl Row for Check {
+    ghost answers = { λ row yes. ⊤ };
+
     fn is_right(&self, alloc: Global) -> Result<bool, NoMemory> {
         let version = version(alloc, self.into, self.onto)?;
         let is_right = answers(&version, self.answer);

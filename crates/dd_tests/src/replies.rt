@@ -1,3 +1,4 @@
+ghost use Rattle.std.specs.Prelude.{⊤};
 ghost use Rattle.dd_wire.specs.Replies.{IsPrintable};
 
 use crate::rows::{Failure, Row, check};
@@ -23,6 +24,8 @@ struct Code {
 }
 
 impl Row for Code {
+    ghost answers = { λ row yes. ⊤ };
+
     fn is_right(&self, alloc: Global) -> Result<bool, NoMemory> {
         let reply = Reply::Refused {
             id: 1,
@@ -114,6 +117,8 @@ struct Fault {
 }
 
 impl Row for Fault {
+    ghost answers = { λ row yes. ⊤ };
+
     fn is_right(&self, alloc: Global) -> Result<bool, NoMemory> {
         let reply = Reply::InvalidWorld {
             id: 4,

@@ -1,10 +1,19 @@
+ghost use Rattle.std.specs.Prelude.{◌≡◌, Bool, IfOk};
+ghost use Rattle.dd_tests.specs.Tables.{Tells, told};
+
 use dd_concept::NoMemory;
 use std::alloc::Global;
 
 /// A row of a table: what is asked of a library, and what it has to answer.
+///
+/// Its `answers` says what may be known of a row from its answer, yes or no. The tables of this crate say nothing there. It is
+/// for the contract of `check`, which holds whatever a row says.
 pub trait Row {
+    ghost answers: { Self → Bool → Type 0 };
+
     /// Whether the answer is that of the row.
-    fn is_right(&self, alloc: Global) -> Result<bool, NoMemory>;
+    fn is_right(&self, alloc: Global) -> Result<bool, NoMemory>
+        ensures { IfOk result (λ yes. answers self.now yes) };
 }
 
 /// Why a test fails.
@@ -19,7 +28,9 @@ pub enum Failure {
 }
 
 /// Whether each row of a table is answered as it says.
-pub fn check<R: Row>(alloc: Global, rows: &[R]) -> Result<(), Failure> {
+pub fn check<R: Row>(alloc: Global, rows: &[R]) -> Result<(), Failure>
+    ensures { Tells R.answers rows.now result }
+{
     for (i, row) in rows.iter().enumerate() {
         match row.is_right(alloc) {
             Ok(true) => {}
@@ -31,7 +42,9 @@ pub fn check<R: Row>(alloc: Global, rows: &[R]) -> Result<(), Failure> {
 }
 
 /// Whether an answer without a table is the right one.
-pub fn check_one(is_right: Result<bool, NoMemory>) -> Result<(), Failure> {
+pub fn check_one(is_right: Result<bool, NoMemory>) -> Result<(), Failure>
+    ensures { result ≡ told is_right }
+{
     match is_right {
         Ok(true) => Ok(()),
         Ok(false) => Err(Failure::WrongAnswer),

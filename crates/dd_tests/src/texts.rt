@@ -1,4 +1,4 @@
-ghost use Rattle.std.specs.Prelude.{IsTrue};
+ghost use Rattle.std.specs.Prelude.{IsTrue, ⊤};
 ghost use Rattle.dd_text.specs.Text.{has_symbols};
 
 use crate::rows::{Failure, Row, check, check_one};
@@ -15,16 +15,22 @@ struct Reading {
 }
 
 impl Row for Reading {
+    ghost answers = { λ row yes. ⊤ };
+
     fn is_right(&self, alloc: Global) -> Result<bool, NoMemory> {
-        let mut symbols = Symbols::new(alloc)?;
-        let outcome = outcome(alloc, &mut symbols, self.text);
-        drop(symbols);
-        Ok(outcome == self.outcome)
+        let limits = Limits { nodes: 4, depth: 3 };
+        Ok(outcome(alloc, limits, self.text)? == self.outcome)
     }
 }
 
-fn outcome(alloc: Global, symbols: &mut Symbols, text: &[u8]) -> u64 {
-    let limits = Limits { nodes: 4, depth: 3 };
+fn outcome(alloc: Global, limits: Limits, text: &[u8]) -> Result<u64, NoMemory> {
+    let mut symbols = Symbols::new(alloc)?;
+    let outcome = reads(alloc, &mut symbols, limits, text);
+    drop(symbols);
+    Ok(outcome)
+}
+
+fn reads(alloc: Global, symbols: &mut Symbols, limits: Limits, text: &[u8]) -> u64 {
     match read_concept(alloc, symbols, limits, text) {
         Ok(c) => {
             let outcome = printed(alloc, symbols, &c, text);
@@ -104,6 +110,76 @@ const READINGS: &[Reading] = &[
 #[test]
 fn reads_concepts_and_tells_where_other_texts_fail(rt: HostRuntime) -> Result<(), Failure> {
     check(rt.alloc(), READINGS)
+}
+
+/// A text made of pieces, each with how many copies of it follow one another, and its outcome by the limits of requests.
+struct Pieces {
+    pieces: &'static [(&'static [u8], u8)],
+    outcome: u64,
+}
+
+impl Row for Pieces {
+    ghost answers = { λ row yes. ⊤ };
+
+    fn is_right(&self, alloc: Global) -> Result<bool, NoMemory> {
+        let text = joined(alloc, self.pieces)?;
+        let outcome = outcome(alloc, REQUEST, text.as_slice());
+        drop(text);
+        Ok(outcome? == self.outcome)
+    }
+}
+
+fn joined(alloc: Global, pieces: &[(&[u8], u8)]) -> Result<Vec<u8>, NoMemory> {
+    let mut text = Vec::new(alloc);
+    for (piece, copies) in pieces {
+        add(&mut text, piece, *copies)?;
+    }
+    Ok(text)
+}
+
+fn add(text: &mut Vec<u8>, piece: &[u8], copies: u8) -> Result<(), NoMemory> {
+    for _ in 0..copies {
+        text.extend_from_slice(piece)?;
+    }
+    Ok(())
+}
+
+/// The opening of a conjunction and its left part, of 31 nodes.
+const BROAD: &[u8] =
+    b"(and (or (or (or (or A B) (or A B)) (or (or A B) (or A B))) (or (or (or A B) (or A B)) (or (or A B) (or A B)))) ";
+
+const EIGHT: &[u8] = b"(not (or (or A B) (or A B)))";
+
+const PIECES: &[Pieces] = &[
+    Pieces {
+        pieces: &[(b"(not ", 63), (b"A", 1), (b")", 63)],
+        outcome: 0,
+    },
+    Pieces {
+        pieces: &[(b"(not ", 64), (b"A", 1), (b")", 64)],
+        outcome: 265,
+    },
+    Pieces {
+        pieces: &[(BROAD, 31), (EIGHT, 1), (b")", 31)],
+        outcome: 0,
+    },
+    Pieces {
+        pieces: &[(BROAD, 31), (b"(not ", 1), (EIGHT, 1), (b")", 32)],
+        outcome: 1_101,
+    },
+    Pieces {
+        pieces: &[(b"A", 64)],
+        outcome: 0,
+    },
+    Pieces {
+        pieces: &[(b"A", 65)],
+        outcome: 1_065,
+    },
+];
+
+#[test]
+fn reads_concepts_to_the_limits_of_requests(rt: HostRuntime) -> Result<(), Failure> {
+    check(rt.alloc(), PIECES)
 }
 
 /// Whether an axiom is read, and printed back as it was.

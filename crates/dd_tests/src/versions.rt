@@ -1,9 +1,14 @@
+ghost use Rattle.std.specs.Prelude.{◌≡◌, IfOk, map};
+ghost use Rattle.dd_tests.specs.Versions.{rule_of, version_of};
+
 use dd_concept::{Concept, Items, NoMemory};
 use dd_peer::{PeerVersion, Rule, Shared};
 use std::alloc::Global;
 
 /// Rules between names: the peer that each comes from, its source and its target.
-pub fn rules(alloc: Global, sides: &[(u32, u32, u32)]) -> Result<Items<Rule>, NoMemory> {
+pub fn rules(alloc: Global, sides: &[(u32, u32, u32)]) -> Result<Items<Rule>, NoMemory>
+    ensures { IfOk result (λ rules. rules ≡ map rule_of sides.now) }
+{
     let mut rules = Items::new(alloc);
     for (from, source, target) in sides {
         rules.push(Rule {
@@ -20,7 +25,9 @@ pub fn version(
     alloc: Global,
     into: &[(u32, u32, u32)],
     onto: &[(u32, u32, u32)],
-) -> Result<PeerVersion, NoMemory> {
+) -> Result<PeerVersion, NoMemory>
+    ensures { IfOk result (λ v. v ≡ version_of into.now onto.now) }
+{
     let into = rules(alloc, into)?;
     let onto = rules(alloc, onto)?;
     Ok(PeerVersion {
@@ -35,6 +42,8 @@ pub fn shared_version(
     alloc: Global,
     into: &[(u32, u32, u32)],
     onto: &[(u32, u32, u32)],
-) -> Result<Shared<PeerVersion>, NoMemory> {
+) -> Result<Shared<PeerVersion>, NoMemory>
+    ensures { IfOk result (λ v. v ≡ version_of into.now onto.now) }
+{
     Shared::new(alloc, version(alloc, into, onto)?)
 }

@@ -1,4 +1,4 @@
-ghost use Rattle.std.specs.Prelude.{◌+◌, ◌^◌, ◌<◌, IsTrue, length};
+ghost use Rattle.std.specs.Prelude.{◌+◌, ◌^◌, ◌<◌, IsTrue, length, ⊤};
 
 use crate::rows::{Failure, Row, check};
 use crate::versions::shared_version;
@@ -25,6 +25,8 @@ struct Judged {
 }
 
 impl Row for Judged {
+    ghost answers = { λ row yes. ⊤ };
+
     fn is_right(&self, alloc: Global) -> Result<bool, NoMemory> {
         let world = world_of(alloc, self.links, self.names)?;
         let is_right = is_judged(alloc, &world, self.answer);
