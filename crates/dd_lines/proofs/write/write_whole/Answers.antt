@@ -1,7 +1,8 @@
 -- What one more call gives joins what was given before.
-use Rattle.std.proofs.Common.{take, drop, sym, subst, arith}
+use Rattle.std.proofs.Common.{rules, take, drop, sym, subst, arith}
 use Rattle.std.proofs.Math.Seq.{take-add}
 use Rattle.std.proofs.lemmas.List.{take-append-drop, take_rest}
+use Rattle.std.proofs.lemmas.Grind.{common_steps}
 use Rattle.dd_lines.specs.Outside.{Gives}
 use Rattle.dd_lines.proofs.Pieces.{gives-both}
 use Rattle.dd_lines.proofs.write.write_whole.Goals as goal
@@ -26,3 +27,6 @@ returns-in-Err-clause-front g c =
     let piece = c.args.piece.now in
     let before = g.K.Sink.given c.args.sink.now in
     (take at piece, drop at piece, sym (take-append-drop at piece), subst (λ v. Gives before v (take at piece)) (sym c.in-Err.ensures.same) c.loop-at.invariant.given)
+
+pub returns-clause-whole : goal.returns-clause-whole
+returns-clause-whole g c = grind (arith, common_steps)
