@@ -1,5 +1,5 @@
 -- What one more call gives joins what was given before.
-use Rattle.std.proofs.Common.{rules, take, drop, sym, subst, arith}
+use Rattle.std.proofs.Common.{take, drop, sym, subst, arith}
 use Rattle.std.proofs.Math.Seq.{take-add}
 use Rattle.std.proofs.lemmas.List.{take-append-drop, take_rest}
 use Rattle.std.proofs.lemmas.Grind.{common_steps}
