@@ -4,6 +4,12 @@ use Rattle.std.proofs.lemmas.Bool.{cases_Bool, and_parts, leb-true, leb-false, e
 use Rattle.std.specs.Prelude.{nat_le, is_some, IsSome}
 use Rattle.std.specs.List.{list_all}
 use denote.Bor.{Bor}
+use Rattle.dd_told.proofs.Plain.{plain_of_pairs}
+use Rattle.dd_told.proofs.Verdicts.{answerable}
+use Rattle.dd_told.specs.Above.{version_of_pairs}
+use Rattle.dd_told.specs.Answers.{Job, Answer, Answers}
+use Rattle.dd_told.specs.Plain.{is_plain}
+use Rattle.dd_told.specs.Verdict.{AsksNames, pairs_job}
 use Rattle.dd_text.specs.Names.{names_a_thing}
 use Rattle.dd_text.specs.Symbols.{SymbolLists, number_of}
 use Rattle.dd_peer.specs.declared.version.Pinned.{Pinned}
@@ -23,22 +29,17 @@ use Rattle.dd_wire.specs.declared.reply.Reply.{Reply}
 use Rattle.dd_wire.specs.declared.reply.Reply.TheVariants as reply
 use Rattle.dd_wire.specs.declared.reply.Unread.TheVariants as unread
 use Rattle.dd_peer.specs.declared.version.PeerVersion.{PeerVersion}
-use Rattle.dd_server.specs.Above.{is_plain, version_of_pairs}
-use Rattle.dd_server.specs.Answers.{Job, Answer, Answers}
-use Rattle.dd_server.specs.Does.{AsksNames, AnsweredForm, AnsweredLine}
+use Rattle.dd_server.specs.Does.{AnsweredForm, AnsweredLine}
 use Rattle.dd_server.specs.Headline.{GivesFirst, most_bytes}
 use Rattle.dd_server.specs.History.{present_version, pin_of}
 use Rattle.dd_server.specs.Session.{State, Kept, finished, asked, judged, start, opening, longest_line, names_of, is_built, is_blank, admits, admitted, does, reads, with_put, job_at, Judges, is_yes, Finished, Answered}
 use Rattle.dd_server.specs.SessionState.{state_of}
 use Rattle.dd_server.specs.Turns.{standing}
-use Rattle.dd_server.specs.Verdict.{pairs_job}
 use Rattle.dd_server.specs.declared.session.Session.{Session}
 use Rattle.dd_server.proofs.Judging.{judges_some_world}
 use Rattle.dd_server.proofs.Only.{IsOne, IsAsk, ask_parts, asks_names, asks_plain, declared_some, pinned_only, single}
-use Rattle.dd_server.proofs.Plain.{plain_of_pairs}
 use Rattle.dd_server.proofs.Runs.{MayGoOn, stopped, reaches_start}
 use Rattle.dd_server.proofs.Turning.{between, turn_blank, turn_answered, built-form, not_built-form, refused-form, answered-refused, answered-too_long, answered-form}
-use Rattle.dd_server.proofs.Verdicts.{answerable}
 
 off : false ≡ true → ⊥
 off e = cc e

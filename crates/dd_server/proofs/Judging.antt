@@ -2,6 +2,7 @@
 use Rattle.std.proofs.Common.{inl, inr, ◌≡◌, ℕ, refl, sym, subst, Result, Ok, Err}
 use Rattle.std.specs.Prelude.{IsOk, ◌↔◌}
 use Rattle.serde_json.specs.Data.{Data}
+use Rattle.dd_told.specs.Answers.{Job}
 use Rattle.dd_text.specs.Symbols.{SymbolLists}
 use Rattle.dd_world.specs.Faults.{IsFirstFault, fault_of, judged_by}
 use Rattle.dd_world.specs.World.{IsCounter}
@@ -14,7 +15,6 @@ use Rattle.dd_cert.specs.declared.read.Cert.TheVariants.{No}
 use Rattle.dd_cert.specs.declared.read.CertErr.{CertErr}
 use Rattle.dd_wire.specs.declared.reply.Reply.{Reply}
 use Rattle.dd_wire.specs.declared.reply.Reply.TheVariants as reply
-use Rattle.dd_server.specs.Answers.{Job}
 use Rattle.dd_server.specs.Judged.{JudgedBy, JudgesCert}
 use Rattle.dd_server.specs.Session.{JudgesWorld, Judges, fault_replied}
 

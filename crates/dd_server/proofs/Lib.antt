@@ -1,8 +1,3 @@
-pub mod Index
-pub mod Reached
-pub mod Least
-pub mod Plain
-pub mod Verdicts
 pub mod Turning
 pub mod Only
 pub mod Requests

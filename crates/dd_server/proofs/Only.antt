@@ -5,6 +5,8 @@ use Rattle.std.specs.Prelude.{IsSome}
 use Rattle.std.specs.Option.{ForSome}
 use Rattle.std.specs.Str.{bytes_eq}
 use Rattle.dd_concept.specs.declared.concept.Concept.TheVariants.{Name}
+use Rattle.dd_told.specs.Plain.{is_plain}
+use Rattle.dd_told.specs.Verdict.{AsksNames}
 use Rattle.dd_text.specs.Grammar.{Term, atomic, Spells}
 use Rattle.dd_text.specs.Names.{names_a_thing}
 use Rattle.dd_text.specs.Symbols.{SymbolLists, number_of, has_text}
@@ -13,8 +15,6 @@ use Rattle.dd_text.proofs.Unique.{Spells-unique}
 use Rattle.dd_peer.specs.declared.version.Query.{Query}
 use Rattle.dd_wire.specs.Accepted.{is_declared}
 use Rattle.dd_wire.specs.Requests.{declared_names, query_of}
-use Rattle.dd_server.specs.Above.{is_plain}
-use Rattle.dd_server.specs.Does.{AsksNames}
 use Rattle.dd_server.specs.History.{Accepted, last_version, present_version, pin_of, pinned_by}
 
 -- there is one peer, where any are declared

@@ -2,13 +2,14 @@
 use Rattle.std.specs.Prelude.{◌≡◌, ℕ, ◌<◌, Bool, true, false, List, [], length, take, slice_get, Option, None, Some, IsSome, ⊤}
 use Rattle.serde_json.specs.View.{view}
 use Rattle.serde_json.specs.Data.{Data}
-use Rattle.dd_concept.specs.declared.concept.Concept.TheVariants.{Name}
+use Rattle.dd_told.specs.Answers.{Job, Answer, Answers}
+use Rattle.dd_told.specs.Plain.{is_plain}
+use Rattle.dd_told.specs.Verdict.{AsksNames}
 use Rattle.dd_text.specs.Symbols.{SymbolLists}
 use Rattle.dd_text.specs.declared.symbols.Mark.{Mark}
 use Rattle.dd_peer.specs.Refusals.{refusal_of}
 use Rattle.dd_peer.specs.declared.check.PeerErr.{PeerErr}
 use Rattle.dd_peer.specs.declared.version.PeerVersion.{PeerVersion}
-use Rattle.dd_peer.specs.declared.version.Query.{Query}
 use Rattle.dd_cert.specs.Certificates.{cert_in}
 use Rattle.dd_wire.specs.Placed.{are_peers}
 use Rattle.dd_wire.specs.Forms.{Written}
@@ -19,8 +20,6 @@ use Rattle.dd_wire.specs.declared.reply.Reply.{Reply}
 use Rattle.dd_wire.specs.declared.reply.Reply.TheVariants as reply
 use Rattle.dd_wire.specs.declared.request.Request.{Request}
 use Rattle.dd_wire.specs.declared.request.Request.TheVariants.{Peers, Put, Ask, Check, Versions}
-use Rattle.dd_server.specs.Above.{is_plain}
-use Rattle.dd_server.specs.Answers.{Job, Answer, Answers}
 use Rattle.dd_server.specs.History.{present_version, pin_of, is_pin}
 use Rattle.dd_server.specs.Session.{State, Passes, admitted, Answered, refused_version, with_put, job_at, Judges, is_yes, names_of}
 
@@ -28,10 +27,6 @@ use Rattle.dd_server.specs.Session.{State, Passes, admitted, Answered, refused_v
 pub record CutsTo (m : Mark) (now before : SymbolLists) : Type 0 where
   pub names : take m.names now.names ≡ before.names
   pub roles : take m.roles now.roles ≡ before.roles
-
--- a question between two names
-abbrev pub AsksNames : Query → Type 0
-AsksNames q = (left : ℕ) × (right : ℕ) × (q ≡ record { peer = 0; left = Name left; right = Name right })
 
 -- what the tests have made sure of a request
 abbrev pub Fits : State → Request → Type 0

@@ -2,15 +2,12 @@
 use Rattle.std.specs.Prelude.{ℕ, ◌+◌, ◌-◌, ◌==◌, ◌&&◌, nat_le, Bool, true, List, [], ◌∷◌, length, map, filter, slice_get, unwrap_or, if◌then◌else◌}
 use Rattle.dd_peer.specs.declared.version.PeerVersion.{PeerVersion}
 use Rattle.dd_peer.specs.declared.version.Pinned.{Pinned}
+use Rattle.dd_told.specs.Verdict.{empty_version}
 
 -- an accepted put: the peer's number and its new version
 pub record Accepted : Type 0 where
   pub peer : ℕ
   pub version : PeerVersion
-
--- the version before the first put
-abbrev pub empty_version : PeerVersion
-empty_version = record { axioms = []; into = []; onto = [] }
 
 -- the versions of one peer, oldest first
 abbrev pub versions_of : ℕ → List Accepted → List PeerVersion

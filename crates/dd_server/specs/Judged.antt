@@ -1,10 +1,10 @@
 -- For private clauses: the replies to checks.
 use Rattle.std.specs.Prelude.{◌≡◌, ℕ, Result, Ok, Err}
 use Rattle.dd_world.specs.declared.world.WorldFault.{WorldFault}
+use Rattle.dd_told.specs.Answers.{Job}
 use Rattle.dd_cert.specs.Certificates.{Tried, Certified}
 use Rattle.dd_cert.specs.declared.read.Cert.{Cert}
 use Rattle.dd_cert.specs.declared.read.Cert.TheVariants as cert
-use Rattle.dd_server.specs.Answers.{Job}
 use Rattle.dd_wire.specs.declared.reply.Reply.{Reply}
 use Rattle.dd_wire.specs.declared.reply.Reply.TheVariants as reply
 use Rattle.dd_server.specs.Session.{fault_replied, JudgesWorld, IsUnread}

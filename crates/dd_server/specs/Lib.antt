@@ -1,12 +1,8 @@
-pub mod Answers
 pub mod History
 pub mod Session
-pub mod Above
-pub mod Verdict
 pub mod SessionState
 pub mod Status
 pub mod Headline
 pub mod Turns
 pub mod Does
-pub mod IsIndexed
 pub mod Judged

@@ -3,6 +3,8 @@ use Rattle.std.specs.Prelude.{◌≡◌, ℕ, ◌+◌, ◌==◌, ◌&&◌, ◌�
 use denote.Bor.{Bor}
 use Rattle.std.specs.List.{flat_map}
 use Rattle.dd_lines.specs.Lines.{lines_of}
+use Rattle.dd_told.specs.Answers.{Job, Answer, follows, fails, Answers}
+use Rattle.dd_told.specs.Plain.{is_plain}
 use Rattle.dd_text.specs.Reads.{told}
 use Rattle.dd_text.specs.Symbols.{SymbolLists, number_of}
 use Rattle.dd_peer.specs.Refusals.{refusal_of}
@@ -30,8 +32,6 @@ use Rattle.dd_wire.specs.declared.reply.BadWorld.TheVariants as bad
 use Rattle.dd_wire.specs.declared.reply.Unread.TheVariants as unread
 use Rattle.dd_wire.specs.declared.reply.Reply.{Reply}
 use Rattle.dd_wire.specs.declared.reply.Reply.TheVariants as reply
-use Rattle.dd_server.specs.Above.{is_plain}
-use Rattle.dd_server.specs.Answers.{Job, Answer, follows, fails, Answers}
 use Rattle.dd_server.specs.History.{Accepted, last_version, present_version, pin_of, pinned_by, is_pin}
 
 abbrev pub longest_line : ℕ

@@ -1,7 +1,7 @@
 -- The state that a session in memory stands for.
 use Rattle.std.specs.Prelude.{List, [], ◌∷◌, Option, None, Some}
+use Rattle.dd_told.specs.declared.version.Version.{Version}
 use Rattle.dd_server.specs.declared.session.Session.{Session}
-use Rattle.dd_server.specs.declared.version.Version.{Version}
 use Rattle.dd_server.specs.History.{Accepted}
 use Rattle.dd_server.specs.Session.{State}
 

@@ -1,9 +1,9 @@
 ghost use Rattle.std.specs.Prelude.{◌≡◌, ◌<◌, ◌+◌, ◌^◌, IfOk, All, length, Result};
 ghost use Rattle.serde_json.specs.View.{view};
+ghost use Rattle.dd_told.specs.Answers.{Job};
 ghost use Rattle.dd_text.specs.Symbols.{Grows};
 ghost use Rattle.dd_cert.specs.Certificates.{Tells, cert_in, Certified, Tried};
 ghost use Rattle.dd_world.specs.Faults.{judged_by, fault_of};
-ghost use Rattle.dd_server.specs.Answers.{Job};
 ghost use Rattle.dd_server.specs.Session.{Judges, fault_replied};
 ghost use Rattle.dd_server.specs.Judged.{JudgedBy, JudgesCert, Unreads};
 

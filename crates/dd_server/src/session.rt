@@ -1,23 +1,20 @@
 ghost use Rattle.std.specs.Prelude.{◌≡◌, ◌<◌, ◌≤◌, ◌+◌, ◌^◌, ℕ, ◌∷◌, [], List, All, true, false, IfOk, IfSome, IsSome, IsTrue, length, Ok, slice_get, None, Some, cond};
 ghost use Rattle.std.specs.Option.{ForSome};
 ghost use Rattle.serde_json.specs.View.{view};
+ghost use Rattle.dd_told.specs.Verdict.{empty_version};
 ghost use Rattle.dd_text.specs.Names.{names_a_thing};
 ghost use Rattle.dd_text.specs.Symbols.{SymbolLists, Grows};
 ghost use Rattle.dd_wire.specs.Forms.{written_of};
 ghost use Rattle.dd_wire.specs.Placed.{are_peers};
 ghost use Rattle.dd_wire.specs.Refusal.{Tested};
-ghost use Rattle.dd_server.specs.Above.{is_plain};
-ghost use Rattle.dd_server.specs.History.{empty_version};
-ghost use Rattle.dd_server.specs.IsIndexed.{IsIndexed};
 ghost use Rattle.dd_server.specs.Does.{CutsTo};
 
 use crate::judge::judge;
 use crate::refusal::{refused, refused_line, refused_version};
-use crate::version::{Version, name_of};
-use crate::walk::reaches;
 use dd_concept::{Items, NoMemory};
 use dd_peer::{PeerVersion, Pinned, Query, Shared};
 use dd_text::{Mark, Symbols};
+use dd_told::{Version, decide};
 use dd_wire::{
     BAD_PIN, Form, NOT_BUILT, Names, Pin, Reply, Request, Text, is_accepted_form, resolve,
 };
@@ -35,17 +32,16 @@ pub struct Session {
 }
 
 impl Session {
+    ghost use Rattle.dd_told.specs.Plain.{is_plain};
+    ghost use Rattle.dd_told.specs.Verdict.{AsksNames, Decides};
     ghost use Rattle.dd_wire.specs.Replies.{IsPrintable};
     ghost use Rattle.dd_wire.specs.Requests.{IsNumbered};
     ghost use Rattle.dd_wire.specs.declared.request.Request.TheVariants as request;
     ghost use Rattle.dd_server.specs.Session.{start, is_open, is_built, names_of, job_at};
     ghost use Rattle.dd_wire.specs.Accepted.{is_accepted};
-    ghost use Rattle.dd_server.specs.IsIndexed.{IsIndexed};
     ghost use Rattle.dd_server.specs.SessionState.{state_of};
     ghost use Rattle.dd_server.specs.History.{pin_of, is_pin, pinned_by, version_at, present_version, last_version};
-    ghost use Rattle.dd_server.specs.Above.{is_plain};
-    ghost use Rattle.dd_server.specs.Verdict.{Decides};
-    ghost use Rattle.dd_server.specs.Does.{Does, Fits, AnsweredForm, AsksNames, PutBy, CheckBy};
+    ghost use Rattle.dd_server.specs.Does.{Does, Fits, AnsweredForm, PutBy, CheckBy};
 
     /// The session before its first request.
     pub fn new(alloc: Global) -> Result<Session, NoMemory>
@@ -219,24 +215,7 @@ impl Session {
         requires plain { is_plain (present_version 0 (state_of self.now).history) ≡ true }
         ensures { IfOk result (λ verdict. Decides (present_version 0 (state_of self.now).history) query.now verdict) }
     {
-        let Some(left) = name_of(&query.left) else {
-            unreachable!();
-        };
-        let Some(right) = name_of(&query.right) else {
-            unreachable!();
-        };
-        reaches(alloc, self.above(), left, right)
-    }
-
-    /// The index of the present version.
-    fn above(&self) -> &[Items<u32>]
-        requires { is_plain (present_version 0 (state_of self.now).history) ≡ true }
-        ensures indexed { IsIndexed result.now (present_version 0 (state_of self.now).history) }
-    {
-        match &self.put {
-            Some(version) => rows_of(version),
-            None => &[],
-        }
+        decide(alloc, self.put.as_ref(), query)
     }
 
     /// The present pin.
@@ -365,7 +344,7 @@ impl Session {
         ensures { result ≡ is_plain (present_version 0 (state_of self.now).history) }
     {
         match &self.put {
-            Some(version) => version.index.is_some(),
+            Some(version) => version.is_plain(),
             None => true,
         }
     }
@@ -382,15 +361,4 @@ fn empty_version(alloc: Global) -> Result<Shared<PeerVersion>, NoMemory>
             onto: Items::new(alloc),
         },
     )
-}
-
-/// The index of a version that has one.
-fn rows_of(version: &Version) -> &[Items<u32>]
-    requires { is_plain version.now.version ≡ true }
-    ensures { IsIndexed result.now version.now.version }
-{
-    match &version.index {
-        Some(index) => index.above.as_slice(),
-        None => unreachable!(),
-    }
 }

@@ -1,0 +1,5 @@
+pub mod Answers
+pub mod Plain
+pub mod Above
+pub mod IsIndexed
+pub mod Verdict
