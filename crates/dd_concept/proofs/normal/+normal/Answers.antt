@@ -1,4 +1,4 @@
-use Rattle.std.proofs.Common.{◌≡◌, ◌∙◌, Ok, ap, ap₂, sym, rules}
+use Rattle.std.proofs.Common.{◌≡◌, ◌∙◌, Ok, ap, ap₂, sym}
 use Rattle.std.proofs.lemmas.Result.{IfOk-at_ok, IfOk-weaker}
 use Rattle.dd_concept.specs.declared.concept.Concept.{Concept}
 use Rattle.dd_concept.specs.declared.concept.Concept.TheVariants.{Or}
@@ -12,4 +12,4 @@ negative-returns-in_ok-negative-in-And t c =
     let whole = ap nnf_not_of c.in-And.is ∙ nnf_not_of-And c.in-And.d c.in-And.e in
     IfOk-weaker _ (λ made. (x : Concept) × (c.negative-in-And.result ≡ Ok x) × (made ≡ Or c.in_ok-negative-in-And.field-0 x)) _
     (λ made h. h.2 ∙ ap₂ Or left (IfOk-at_ok (λ y. y ≡ nnf_not_of c.get-in-And-2.result.now) h.1 c.negative-in-And.ensures ∙ ap nnf_not_of c.get-in-And-2.ensures) ∙ sym whole)
-    (search rules)
+    search
