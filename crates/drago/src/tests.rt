@@ -24,41 +24,86 @@ const REPLIES: &str = r#"{"id":1,"peers":1}
 {"id":3,"pin":[1],"verdict":"yes"}
 "#;
 
-/// What the sink was given by the end of a session with one word, and then the digit of its status.
+/// What is told of a source and a sink: what the sink was given by sessions one after another, each with its words, and
+/// then the digits of their statuses.
 fn told(
     alloc: Global,
-    word: &str,
+    sessions: &[&[&str]],
+    mut source: MemSource,
+    mut sink: MemSink,
+) -> Result<Vec<u8>, AllocError> {
+    let statuses = statuses_of(alloc, sessions, &mut source, &mut sink)?;
+    [sink.bytes(), statuses.as_slice()].concat(alloc)
+}
+
+fn statuses_of(
+    alloc: Global,
+    sessions: &[&[&str]],
     source: &mut MemSource,
     sink: &mut MemSink,
 ) -> Result<Vec<u8>, AllocError> {
-    let status = status_of(alloc, &[word], source, sink)?;
-    let mut told = sink.bytes().to_vec(alloc)?;
-    told.push(status)?;
-    Ok(told)
+    let mut statuses = Vec::new(alloc);
+    for texts in sessions {
+        add_status(alloc, texts, source, sink, &mut statuses)?;
+    }
+    Ok(statuses)
 }
 
-/// The digit of the status of a session with these words.
-fn status_of(
+/// Adds the digit of the status of a session with these words.
+fn add_status(
     alloc: Global,
     texts: &[&str],
     source: &mut MemSource,
     sink: &mut MemSink,
-) -> Result<u8, AllocError> {
+    statuses: &mut Vec<u8>,
+) -> Result<(), AllocError> {
+    let words = words_of(alloc, texts)?;
+    let status = drago_alone(alloc, words.as_slice(), source, sink);
+    statuses.push(b'0' + status.number())?;
+    Ok(())
+}
+
+fn words_of(alloc: Global, texts: &[&str]) -> Result<Vec<String>, AllocError> {
     let mut words = Vec::new(alloc);
     for text in texts {
-        words.push(String::from_str(alloc, text)?)?;
+        add_word(alloc, text, &mut words)?;
     }
-    let status = drago_alone(alloc, words.as_slice(), source, sink);
-    Ok(b'0' + status.number())
+    Ok(words)
 }
+
+fn add_word(alloc: Global, text: &str, words: &mut Vec<String>) -> Result<(), AllocError> {
+    words.push(String::from_str(alloc, text)?)?;
+    Ok(())
+}
+
+/// A session with the right word.
+const ALONE: &[&[&str]] = &[&["alone"]];
+
+/// A call that no session here makes, so that none fails.
+const NEVER: u64 = u64::MAX;
 
 /// What is told at ends that never fail, where a read brings at most `piece` bytes.
 fn answers(alloc: Global, input: &[u8], piece: usize) -> Result<Vec<u8>, AllocError>
     requires { 1 ≤ piece }
 {
-    let mut source = MemSource::new(input.to_vec(alloc)?, piece, Vec::new(alloc));
-    let mut sink = MemSink::new(alloc, 65_536, 4096, Vec::new(alloc))?;
-    told(alloc, "alone", &mut source, &mut sink)
+    let source = source_of(alloc, input, piece, NEVER)?;
+    let sink = sink_of(alloc, 65_536, 4096, NEVER)?;
+    told(alloc, ALONE, source, sink)
+}
+
+/// A source of this input, of which a read brings at most `piece` bytes and this one fails, counted from 0.
+fn source_of(alloc: Global, input: &[u8], piece: usize, fails: u64) -> Result<MemSource, AllocError>
+    requires { 1 ≤ piece }
+{
+    let bytes = input.to_vec(alloc)?;
+    Ok(MemSource::new(bytes, piece, [fails].to_vec(alloc)?))
+}
+
+/// A sink for this many bytes, of which a write takes at most `piece` and this one fails, counted from 0.
+fn sink_of(alloc: Global, capacity: usize, piece: usize, fails: u64) -> Result<MemSink, AllocError>
+    requires { 1 ≤ piece }
+{
+    MemSink::new(alloc, capacity, piece, [fails].to_vec(alloc)?)
 }
 
 /// An input and what is told at its end.
@@ -98,35 +143,42 @@ const RUNS: &[Run] = &[
     },
 ];
 
-/// The number of the first run that is told otherwise, in reads of one byte or of many.
-fn first_other_run(alloc: Global) -> Result<Option<usize>, AllocError> {
-    for (i, run) in RUNS.iter().enumerate() {
-        if !is_told(alloc, run, 1)? || !is_told(alloc, run, 4096)? {
-            return Ok(Some(i));
-        }
+fn runs_are_told(alloc: Global) -> Result<(), Failure> {
+    for row in 0..RUNS.len() {
+        run_is_told(alloc, row, 1)?;
+        run_is_told(alloc, row, 4096)?;
     }
-    Ok(None)
+    Ok(())
 }
 
-fn is_told(alloc: Global, run: &Run, piece: usize) -> Result<bool, AllocError>
+fn run_is_told(alloc: Global, row: usize, piece: usize) -> Result<(), Failure>
     requires { 1 ≤ piece }
 {
-    let got = answers(alloc, run.input, piece)?;
-    Ok(got.as_slice() == run.told.as_bytes())
+    if let Some(run) = RUNS.get(row) {
+        let told = answers(alloc, run.input, piece)?;
+        return is_wanted(row, told.as_slice(), Some(&[]), run.told);
+    }
+    Ok(())
+}
+
+/// Whether these are the bytes and a text behind them.
+fn is_wanted(row: usize, told: &[u8], front: Option<&[u8]>, behind: &str) -> Result<(), Failure> {
+    if let Some(front) = front {
+        if told.strip_prefix(front) == Some(behind.as_bytes()) {
+            return Ok(());
+        }
+    }
+    Err(Failure::Row { row })
 }
 
 #[test]
 fn each_line_with_a_byte_is_a_request(rt: HostRuntime) -> Result<(), Failure> {
-    assert!(rt; first_other_run(rt.alloc())?.is_none());
-    Ok(())
+    runs_are_told(rt.alloc())
 }
 
-/// A read or write that no session here makes, so that none fails.
-const NEVER: u64 = 1000;
-
-/// The three requests, read by 10 bytes and written by 16, at ends that fail. A row is: how many bytes there are to read, the
-/// read that fails, counted from 0, the bytes that the sink holds, and the write that fails; then how many bytes of the
-/// replies are given, and what is told behind them.
+/// The three requests, read by 10 bytes and written by 16, at ends that fail. A row is: how many bytes there are to
+/// read, the read that fails, counted from 0, the bytes that the sink holds, and the write that fails; then how many
+/// bytes of the replies are given, and what is told behind them.
 const CUTS: &[(usize, u64, usize, u64, usize, &str)] = &[
     // The input ends early.
     (0, NEVER, 4096, NEVER, 0, "0"),
@@ -166,15 +218,24 @@ const CUTS: &[(usize, u64, usize, u64, usize, &str)] = &[
     (143, NEVER, 20, NEVER, 20, "4"),
 ];
 
-/// The number of the first row that is told otherwise.
-fn first_other_cut(alloc: Global) -> Result<Option<usize>, AllocError> {
-    for (i, (input, read, capacity, write, given, behind)) in CUTS.iter().enumerate() {
-        let got = breaks(alloc, *input, *read, *capacity, *write)?;
-        if !is_replies(got.as_slice(), *given, behind) {
-            return Ok(Some(i));
-        }
+fn cuts_are_told(alloc: Global) -> Result<(), Failure> {
+    for row in 0..CUTS.len() {
+        cut_is_told(alloc, row)?;
     }
-    Ok(None)
+    Ok(())
+}
+
+fn cut_is_told(alloc: Global, row: usize) -> Result<(), Failure> {
+    if let Some((input, read, capacity, write, given, behind)) = CUTS.get(row) {
+        let told = breaks(alloc, *input, *read, *capacity, *write)?;
+        return is_wanted(
+            row,
+            told.as_slice(),
+            REPLIES.as_bytes().get(..*given),
+            behind,
+        );
+    }
+    Ok(())
 }
 
 /// What is told of the first bytes of the three requests at ends of which these calls fail.
@@ -185,72 +246,42 @@ fn breaks(
     capacity: usize,
     write: u64,
 ) -> Result<Vec<u8>, AllocError> {
-    let mut source = source_of(alloc, input, read)?;
-    let mut sink = sink_of(alloc, capacity, write)?;
-    told(alloc, "alone", &mut source, &mut sink)
-}
-
-fn source_of(alloc: Global, input: usize, read: u64) -> Result<MemSource, AllocError> {
-    let bytes = match REQUESTS.as_bytes().get(..input) {
-        Some(front) => front.to_vec(alloc)?,
-        None => Vec::new(alloc),
-    };
-    Ok(MemSource::new(bytes, 10, [read].to_vec(alloc)?))
-}
-
-fn sink_of(alloc: Global, capacity: usize, write: u64) -> Result<MemSink, AllocError> {
-    MemSink::new(alloc, capacity, 16, [write].to_vec(alloc)?)
-}
-
-/// Whether these are the first bytes of the replies, so many, and a text behind them.
-fn is_replies(got: &[u8], given: usize, behind: &str) -> bool {
-    match REPLIES.as_bytes().get(..given) {
-        Some(front) => got.strip_prefix(front) == Some(behind.as_bytes()),
-        None => false,
-    }
+    let bytes = REQUESTS.as_bytes().get(..input).unwrap_or(&[]);
+    let source = source_of(alloc, bytes, 10, read)?;
+    let sink = sink_of(alloc, capacity, 16, write)?;
+    told(alloc, ALONE, source, sink)
 }
 
 #[test]
 fn what_was_given_before_an_end_stays(rt: HostRuntime) -> Result<(), Failure> {
-    assert!(rt; first_other_cut(rt.alloc())?.is_none());
-    Ok(())
+    cuts_are_told(rt.alloc())
 }
 
-/// Words that are no command.
+/// Words that are no command, and then the right word.
 const OTHER_WORDS: &[&[&str]] = &[
     &["serve"],
     &["alone", "alone"],
     &["Alone"],
     &["alone "],
     &[""],
+    &[],
+    &["alone"],
 ];
 
-/// Whether sessions with these words leave the source and the sink as they are, so that one with the right word answers.
-fn are_other_words(alloc: Global, words: &[&[&str]]) -> Result<bool, AllocError> {
-    let mut source = MemSource::new(REQUESTS.as_bytes().to_vec(alloc)?, 4096, Vec::new(alloc));
-    let mut sink = MemSink::new(alloc, 4096, 4096, Vec::new(alloc))?;
-    let are_refused = are_refused(alloc, words, &mut source, &mut sink)?;
-    let told = told(alloc, "alone", &mut source, &mut sink)?;
-    Ok(are_refused && is_replies(told.as_slice(), 85, "0"))
+/// What is told of the three requests by sessions with those words.
+fn told_by_words(alloc: Global) -> Result<Vec<u8>, AllocError> {
+    let source = source_of(alloc, REQUESTS.as_bytes(), 4096, NEVER)?;
+    let sink = sink_of(alloc, 4096, 4096, NEVER)?;
+    told(alloc, OTHER_WORDS, source, sink)
 }
 
-fn are_refused(
-    alloc: Global,
-    words: &[&[&str]],
-    source: &mut MemSource,
-    sink: &mut MemSink,
-) -> Result<bool, AllocError> {
-    for texts in words {
-        if status_of(alloc, texts, source, sink)? != b'2' {
-            return Ok(false);
-        }
-    }
-    Ok(status_of(alloc, &[], source, sink)? == b'2')
+fn words_are_told(alloc: Global) -> Result<(), Failure> {
+    let told = told_by_words(alloc)?;
+    is_wanted(0, told.as_slice(), Some(REPLIES.as_bytes()), "2222220")
 }
 
 #[test]
 fn other_words_read_and_write_nothing(rt: HostRuntime) -> Result<(), Failure> {
-    assert!(rt; are_other_words(rt.alloc(), OTHER_WORDS)?);
     assert!(rt; USAGE == b"usage: drago serve|alone|make|drill [options]\n".as_slice());
-    Ok(())
+    words_are_told(rt.alloc())
 }

@@ -4,92 +4,92 @@ use super::transcript::{Failure, follows};
 const LIMITS: &str = r#"
 # A concept has at most 64 levels.
 > {"op":"peers","names":["a"]}
-< {"id":@,"peers":1}
-> {"op":"put","peer":"a","axioms":["(implies ~64~(not ~A~64~)~ B)"]}
-< {"code":11,"error":"concept_limit","id":@,"n":0}
-> {"op":"put","peer":"a","axioms":["(implies B ~64~(not ~A~64~)~)"]}
-< {"code":11,"error":"concept_limit","id":@,"n":0}
-> {"op":"put","peer":"a","axioms":["(implies ~63~(not ~A~63~)~ ~63~(not ~A~63~)~)"]}
-< {"id":@,"put":"a","version":1}
+< {"id":1,"peers":1}
+> {"op":"put","peer":"a","axioms":["(implies ~64*(not ~A~64*)~ B)"]}
+< {"code":11,"error":"concept_limit","id":2,"n":0}
+> {"op":"put","peer":"a","axioms":["(implies B ~64*(not ~A~64*)~)"]}
+< {"code":11,"error":"concept_limit","id":3,"n":0}
+> {"op":"put","peer":"a","axioms":["(implies ~63*(not ~A~63*)~ ~63*(not ~A~63*)~)"]}
+< {"id":4,"put":"a","version":1}
 ---
 # A concept has at most 1,000 nodes: 30 times a conjunction with 32 nodes on its left, and 10 or 11 nodes at the end.
 > {"op":"peers","names":["a"]}
-< {"id":@,"peers":1}
-> {"op":"put","peer":"a","axioms":["(implies ~30~(and ^31^(not ^A^31^)^ ~^10^(not ^A^10^)^~30~)~ B)"]}
-< {"code":11,"error":"concept_limit","id":@,"n":0}
-> {"op":"put","peer":"a","axioms":["(implies B ~30~(and ^31^(not ^A^31^)^ ~^10^(not ^A^10^)^~30~)~)"]}
-< {"code":11,"error":"concept_limit","id":@,"n":0}
-> {"op":"put","peer":"a","axioms":["(implies ~30~(and ^31^(not ^A^31^)^ ~^9^(not ^A^9^)^~30~)~ ~30~(and ^31^(not ^A^31^)^ ~^9^(not ^A^9^)^~30~)~)"]}
-< {"id":@,"put":"a","version":1}
+< {"id":1,"peers":1}
+> {"op":"put","peer":"a","axioms":["(implies ~30*(and ^31*(not ^A^31*)^ ~^10*(not ^A^10*)^~30*)~ B)"]}
+< {"code":11,"error":"concept_limit","id":2,"n":0}
+> {"op":"put","peer":"a","axioms":["(implies B ~30*(and ^31*(not ^A^31*)^ ~^10*(not ^A^10*)^~30*)~)"]}
+< {"code":11,"error":"concept_limit","id":3,"n":0}
+> {"op":"put","peer":"a","axioms":["(implies ~30*(and ^31*(not ^A^31*)^ ~^9*(not ^A^9*)^~30*)~ ~30*(and ^31*(not ^A^31*)^ ~^9*(not ^A^9*)^~30*)~)"]}
+< {"id":4,"put":"a","version":1}
 ---
 # A name has at most 64 bytes.
 > {"op":"peers","names":["a"]}
-< {"id":@,"peers":1}
+< {"id":1,"peers":1}
 > {"op":"put","peer":"a","axioms":["(implies aB0_-.:8901234567890123456789012345678901234567890123456789012345 top)"]}
-< {"code":3,"error":"bad_concept","id":@,"n":0}
+< {"code":3,"error":"bad_concept","id":2,"n":0}
 > {"op":"put","peer":"a","axioms":["(implies aB0_-.:890123456789012345678901234567890123456789012345678901234 top)"]}
-< {"id":@,"put":"a","version":1}
+< {"id":3,"put":"a","version":1}
 ---
 # The texts of a check come before its pin.
 > {"op":"peers","names":["a"]}
-< {"id":@,"peers":1}
-> {"op":"check","peer":"a","left":"A","right":"~63~(not ~A~63~)~","pin":[0],"cert":{"format":1,"kind":"no","links":[],"locals":[{"names":[["A",0]],"roles":[],"size":1}]}}
-< {"check":"valid","id":@}
-> {"op":"check","peer":"a","left":"A","right":"~63~(not ~A~63~)~","pin":[1],"cert":{"format":1,"kind":"no","links":[],"locals":[{"names":[["A",0]],"roles":[],"size":1}]}}
-< {"code":18,"error":"bad_pin","id":@}
-> {"op":"check","peer":"a","left":"A","right":"~64~(not ~A~64~)~","pin":[1],"cert":{"format":1,"kind":"no","links":[],"locals":[{"names":[["A",0]],"roles":[],"size":1}]}}
-< {"code":11,"error":"concept_limit","id":@,"n":1}
-> {"op":"check","peer":"a","left":"(","right":"~63~(not ~A~63~)~","pin":[0],"cert":{"format":1,"kind":"no","links":[],"locals":[{"names":[["A",0]],"roles":[],"size":1}]}}
-< {"code":3,"error":"bad_concept","id":@,"n":0}
-> {"op":"check","peer":"a","left":"(not A","right":"~64~(not ~A~64~)~","pin":[1],"cert":{"format":1,"kind":"no","links":[],"locals":[{"names":[["A",0]],"roles":[],"size":1}]}}
-< {"code":3,"error":"bad_concept","id":@,"n":0}
+< {"id":1,"peers":1}
+> {"op":"check","peer":"a","left":"A","right":"~63*(not ~A~63*)~","pin":[0],"cert":{"format":1,"kind":"no","links":[],"locals":[{"names":[["A",0]],"roles":[],"size":1}]}}
+< {"check":"valid","id":2}
+> {"op":"check","peer":"a","left":"A","right":"~63*(not ~A~63*)~","pin":[1],"cert":{"format":1,"kind":"no","links":[],"locals":[{"names":[["A",0]],"roles":[],"size":1}]}}
+< {"code":18,"error":"bad_pin","id":3}
+> {"op":"check","peer":"a","left":"A","right":"~64*(not ~A~64*)~","pin":[1],"cert":{"format":1,"kind":"no","links":[],"locals":[{"names":[["A",0]],"roles":[],"size":1}]}}
+< {"code":11,"error":"concept_limit","id":4,"n":1}
+> {"op":"check","peer":"a","left":"(","right":"~63*(not ~A~63*)~","pin":[0],"cert":{"format":1,"kind":"no","links":[],"locals":[{"names":[["A",0]],"roles":[],"size":1}]}}
+< {"code":3,"error":"bad_concept","id":5,"n":0}
+> {"op":"check","peer":"a","left":"(not A","right":"~64*(not ~A~64*)~","pin":[1],"cert":{"format":1,"kind":"no","links":[],"locals":[{"names":[["A",0]],"roles":[],"size":1}]}}
+< {"code":3,"error":"bad_concept","id":6,"n":0}
 ---
 # A text of any depth is read, and a later text outside the grammar comes before it.
 > {"op":"peers","names":["a"]}
-< {"id":@,"peers":1}
-> {"op":"check","peer":"a","left":"~100000~(not ~A~100000~)~","right":"B","pin":[0],"cert":{}}
-< {"code":11,"error":"concept_limit","id":@,"n":0}
-> {"op":"check","peer":"a","left":"~100000~(not ~A~100000~)~","right":"(","pin":[0],"cert":{}}
-< {"code":3,"error":"bad_concept","id":@,"n":1}
+< {"id":1,"peers":1}
+> {"op":"check","peer":"a","left":"~100000*(not ~A~100000*)~","right":"B","pin":[0],"cert":{}}
+< {"code":11,"error":"concept_limit","id":2,"n":0}
+> {"op":"check","peer":"a","left":"~100000*(not ~A~100000*)~","right":"(","pin":[0],"cert":{}}
+< {"code":3,"error":"bad_concept","id":3,"n":1}
 # Concepts are not asked about yet, however deep they are.
 > {"op":"ask","peer":"a","left":"(not A)","right":"B"}
-< {"code":17,"error":"not_built","id":@}
-> {"op":"ask","peer":"a","left":"~63~(not ~A~63~)~","right":"B"}
-< {"code":17,"error":"not_built","id":@}
-> {"op":"ask","peer":"a","left":"~64~(not ~A~64~)~","right":"B"}
-< {"code":17,"error":"not_built","id":@}
+< {"code":17,"error":"not_built","id":4}
+> {"op":"ask","peer":"a","left":"~63*(not ~A~63*)~","right":"B"}
+< {"code":17,"error":"not_built","id":5}
+> {"op":"ask","peer":"a","left":"~64*(not ~A~64*)~","right":"B"}
+< {"code":17,"error":"not_built","id":6}
 ---
 # An axiom outside the grammar comes before one that is too deep, and that before the number of axioms, which is at most 2,000.
 > {"op":"peers","names":["a"]}
-< {"id":@,"peers":1}
-> {"op":"put","peer":"a","axioms":["(implies ~64~(not ~A~64~)~ B)"~1999~,"(implies A C)"~,"(implies B)"]}
-< {"code":3,"error":"bad_concept","id":@,"n":2000}
-> {"op":"put","peer":"a","axioms":["(implies ~64~(not ~A~64~)~ B)"~1999~,"(implies A C)"~,"(implies B C)"]}
-< {"code":11,"error":"concept_limit","id":@,"n":0}
-> {"op":"put","peer":"a","axioms":["(implies X B)"~1999~,"(implies A C)"~,"(implies B C)"]}
-< {"code":9,"error":"too_many_axioms","id":@,"n":2001}
-> {"op":"put","peer":"a","axioms":["(implies A B)"~1998~,"(implies A C)"~,"(implies B D)"]}
-< {"id":@,"put":"a","version":1}
+< {"id":1,"peers":1}
+> {"op":"put","peer":"a","axioms":["(implies ~64*(not ~A~64*)~ B)"~1999*,"(implies A C)"~,"(implies B)"]}
+< {"code":3,"error":"bad_concept","id":2,"n":2000}
+> {"op":"put","peer":"a","axioms":["(implies ~64*(not ~A~64*)~ B)"~1999*,"(implies A C)"~,"(implies B C)"]}
+< {"code":11,"error":"concept_limit","id":3,"n":0}
+> {"op":"put","peer":"a","axioms":["(implies X B)"~1999*,"(implies A C)"~,"(implies B C)"]}
+< {"code":9,"error":"too_many_axioms","id":4,"n":2001}
+> {"op":"put","peer":"a","axioms":["(implies A B)"~1998*,"(implies A C)"~,"(implies B D)"]}
+< {"id":5,"put":"a","version":1}
 > {"op":"ask","peer":"a","left":"A","right":"D"}
-< {"id":@,"pin":[1],"verdict":"yes"}
+< {"id":6,"pin":[1],"verdict":"yes"}
 ---
 # A check with A, C and 65,535 further names has one too many, and no check leaves its names.
 > {"op":"peers","names":["a"]}
-< {"id":@,"peers":1}
-> {"op":"check","peer":"a","left":"A","right":"C","pin":[0],"cert":{"format":1,"kind":"no","links":[],"locals":[{"roles":[],"size":1,"names":[["A",0]~65535~,["n#",0]~]}]}}
-< {"code":12,"error":"symbols_full","id":@}
-> {"op":"check","peer":"a","left":"A","right":"C","pin":[0],"cert":{"format":1,"kind":"no","links":[],"locals":[{"roles":[],"size":1,"names":[["A",0]~65534~,["m#",0]~]}]}}
-< {"check":"valid","id":@}
+< {"id":1,"peers":1}
+> {"op":"check","peer":"a","left":"A","right":"C","pin":[0],"cert":{"format":1,"kind":"no","links":[],"locals":[{"roles":[],"size":1,"names":[["A",0]~65535*,["n#",0]~]}]}}
+< {"code":12,"error":"symbols_full","id":2}
+> {"op":"check","peer":"a","left":"A","right":"C","pin":[0],"cert":{"format":1,"kind":"no","links":[],"locals":[{"roles":[],"size":1,"names":[["A",0]~65534*,["m#",0]~]}]}}
+< {"check":"valid","id":3}
 > {"op":"ask","peer":"a","left":"X","right":"Y"}
-< {"id":@,"pin":[0],"verdict":"no"}
+< {"id":4,"pin":[0],"verdict":"no"}
 ---
 # A line has at most 1,048,576 bytes, and one of more is refused alone.
-> ~1048576~ ~
-< {"code":1,"error":"bad_json","id":@}
-> ~1048577~ ~
-< {"code":16,"error":"line_too_long","id":@}
+> ~1048576* ~
+< {"code":1,"error":"bad_json","id":1}
+> ~1048577* ~
+< {"code":16,"error":"line_too_long","id":2}
 > {"op":"peers","names":["a"]}
-< {"id":@,"peers":1}
+< {"id":3,"peers":1}
 "#;
 
 #[test]

@@ -3,187 +3,187 @@ use super::transcript::{Failure, follows};
 /// Lines that are refused, and others that are answered between them as if those had not come.
 const REFUSED: &str = r#"
 > {"op":"peers","names":["a"]}
-< {"id":@,"peers":1}
+< {"id":1,"peers":1}
 # A put that is refused leaves the first one open.
 > {"op":"put","peer":"a","axioms":["(implies X Y)","(implies X)","X"]}
-< {"code":3,"error":"bad_concept","id":@,"n":1}
+< {"code":3,"error":"bad_concept","id":2,"n":1}
 > {"op":"put","peer":"b","axioms":["(implies X Y)"]}
-< {"code":17,"error":"not_built","id":@}
+< {"code":17,"error":"not_built","id":3}
 > {"op":"put","peer":"a","axioms":["X"],"into":[{"from":"b","source":"X","target":"Y"}]}
-< {"code":17,"error":"not_built","id":@}
+< {"code":17,"error":"not_built","id":4}
 > {"op":"put","peer":"a","onto":[{"from":"a","source":"X","target":"Y"}]}
-< {"code":17,"error":"not_built","id":@}
+< {"code":17,"error":"not_built","id":5}
 > {"op":"put","peer":"a","axioms":"(implies X Y)"}
-< {"code":2,"error":"bad_shape","id":@}
+< {"code":2,"error":"bad_shape","id":6}
 > {"op":"check","peer":"a","left":"X","right":"Y Z","pin":[0],"cert":{}}
-< {"code":3,"error":"bad_concept","id":@,"n":1}
+< {"code":3,"error":"bad_concept","id":7,"n":1}
 > {"op":"check","peer":"a","left":"X","right":"Y","pin":[1],"cert":{}}
-< {"code":18,"error":"bad_pin","id":@}
+< {"code":18,"error":"bad_pin","id":8}
 > {"op":"check","peer":"a","left":"X","right":"Y","pin":[0],"cert":{"format":1,"kind":"no","links":[],"locals":[{"names":[["X",0]],"roles":[],"size":1}]}}
-< {"check":"valid","id":@}
+< {"check":"valid","id":9}
 # A text is in the grammar to the byte.
 > {"op":"put","peer":"a","axioms":["(implies top (some r (all r bottom)))","","("]}
-< {"code":3,"error":"bad_concept","id":@,"n":1}
+< {"code":3,"error":"bad_concept","id":10,"n":1}
 > {"op":"put","peer":"a","axioms":["(implies top (some r (all r bottom)))","A","("]}
-< {"code":3,"error":"bad_concept","id":@,"n":1}
+< {"code":3,"error":"bad_concept","id":11,"n":1}
 > {"op":"put","peer":"a","axioms":["(implies top (some r (all r bottom)))","implies A B","("]}
-< {"code":3,"error":"bad_concept","id":@,"n":1}
+< {"code":3,"error":"bad_concept","id":12,"n":1}
 > {"op":"put","peer":"a","axioms":["(implies top (some r (all r bottom)))","(implies A)","("]}
-< {"code":3,"error":"bad_concept","id":@,"n":1}
+< {"code":3,"error":"bad_concept","id":13,"n":1}
 > {"op":"put","peer":"a","axioms":["(implies top (some r (all r bottom)))","(implies A B","("]}
-< {"code":3,"error":"bad_concept","id":@,"n":1}
+< {"code":3,"error":"bad_concept","id":14,"n":1}
 > {"op":"put","peer":"a","axioms":["(implies top (some r (all r bottom)))","(implies A B C)","("]}
-< {"code":3,"error":"bad_concept","id":@,"n":1}
+< {"code":3,"error":"bad_concept","id":15,"n":1}
 > {"op":"put","peer":"a","axioms":["(implies top (some r (all r bottom)))","(implies A B))","("]}
-< {"code":3,"error":"bad_concept","id":@,"n":1}
+< {"code":3,"error":"bad_concept","id":16,"n":1}
 > {"op":"put","peer":"a","axioms":["(implies top (some r (all r bottom)))","(implies A B) ","("]}
-< {"code":3,"error":"bad_concept","id":@,"n":1}
+< {"code":3,"error":"bad_concept","id":17,"n":1}
 > {"op":"put","peer":"a","axioms":["(implies top (some r (all r bottom)))"," (implies A B)","("]}
-< {"code":3,"error":"bad_concept","id":@,"n":1}
+< {"code":3,"error":"bad_concept","id":18,"n":1}
 > {"op":"put","peer":"a","axioms":["(implies top (some r (all r bottom)))","( implies A B)","("]}
-< {"code":3,"error":"bad_concept","id":@,"n":1}
+< {"code":3,"error":"bad_concept","id":19,"n":1}
 > {"op":"put","peer":"a","axioms":["(implies top (some r (all r bottom)))","(implies A  B)","("]}
-< {"code":3,"error":"bad_concept","id":@,"n":1}
+< {"code":3,"error":"bad_concept","id":20,"n":1}
 > {"op":"put","peer":"a","axioms":["(implies top (some r (all r bottom)))","(implies A\tB)","("]}
-< {"code":3,"error":"bad_concept","id":@,"n":1}
+< {"code":3,"error":"bad_concept","id":21,"n":1}
 > {"op":"put","peer":"a","axioms":["(implies top (some r (all r bottom)))","(implies A\nB)","("]}
-< {"code":3,"error":"bad_concept","id":@,"n":1}
+< {"code":3,"error":"bad_concept","id":22,"n":1}
 > {"op":"put","peer":"a","axioms":["(implies top (some r (all r bottom)))","(subrole A B)","("]}
-< {"code":3,"error":"bad_concept","id":@,"n":1}
+< {"code":3,"error":"bad_concept","id":23,"n":1}
 > {"op":"put","peer":"a","axioms":["(implies top (some r (all r bottom)))","(Implies A B)","("]}
-< {"code":3,"error":"bad_concept","id":@,"n":1}
+< {"code":3,"error":"bad_concept","id":24,"n":1}
 > {"op":"put","peer":"a","axioms":["(implies top (some r (all r bottom)))","(implies A implies)","("]}
-< {"code":3,"error":"bad_concept","id":@,"n":1}
+< {"code":3,"error":"bad_concept","id":25,"n":1}
 > {"op":"put","peer":"a","axioms":["(implies top (some r (all r bottom)))","(implies subrole B)","("]}
-< {"code":3,"error":"bad_concept","id":@,"n":1}
+< {"code":3,"error":"bad_concept","id":26,"n":1}
 > {"op":"put","peer":"a","axioms":["(implies top (some r (all r bottom)))","(implies not B)","("]}
-< {"code":3,"error":"bad_concept","id":@,"n":1}
+< {"code":3,"error":"bad_concept","id":27,"n":1}
 > {"op":"put","peer":"a","axioms":["(implies top (some r (all r bottom)))","(implies (not) B)","("]}
-< {"code":3,"error":"bad_concept","id":@,"n":1}
+< {"code":3,"error":"bad_concept","id":28,"n":1}
 > {"op":"put","peer":"a","axioms":["(implies top (some r (all r bottom)))","(implies (not A B) C)","("]}
-< {"code":3,"error":"bad_concept","id":@,"n":1}
+< {"code":3,"error":"bad_concept","id":29,"n":1}
 > {"op":"put","peer":"a","axioms":["(implies top (some r (all r bottom)))","(implies (and A) B)","("]}
-< {"code":3,"error":"bad_concept","id":@,"n":1}
+< {"code":3,"error":"bad_concept","id":30,"n":1}
 > {"op":"put","peer":"a","axioms":["(implies top (some r (all r bottom)))","(implies (or A B C) D)","("]}
-< {"code":3,"error":"bad_concept","id":@,"n":1}
+< {"code":3,"error":"bad_concept","id":31,"n":1}
 > {"op":"put","peer":"a","axioms":["(implies top (some r (all r bottom)))","(implies (some r) B)","("]}
-< {"code":3,"error":"bad_concept","id":@,"n":1}
+< {"code":3,"error":"bad_concept","id":32,"n":1}
 > {"op":"put","peer":"a","axioms":["(implies top (some r (all r bottom)))","(implies (some (not r) A) B)","("]}
-< {"code":3,"error":"bad_concept","id":@,"n":1}
+< {"code":3,"error":"bad_concept","id":33,"n":1}
 > {"op":"put","peer":"a","axioms":["(implies top (some r (all r bottom)))","(implies (all top A) B)","("]}
-< {"code":3,"error":"bad_concept","id":@,"n":1}
+< {"code":3,"error":"bad_concept","id":34,"n":1}
 > {"op":"put","peer":"a","axioms":["(implies top (some r (all r bottom)))","(implies 1A B)","("]}
-< {"code":3,"error":"bad_concept","id":@,"n":1}
+< {"code":3,"error":"bad_concept","id":35,"n":1}
 > {"op":"put","peer":"a","axioms":["(implies top (some r (all r bottom)))","(implies A? B)","("]}
-< {"code":3,"error":"bad_concept","id":@,"n":1}
+< {"code":3,"error":"bad_concept","id":36,"n":1}
 > {"op":"put","peer":"a","axioms":["(implies top (some r (all r bottom)))","(implies é B)","("]}
-< {"code":3,"error":"bad_concept","id":@,"n":1}
+< {"code":3,"error":"bad_concept","id":37,"n":1}
 > {"op":"put","peer":"a","axioms":["(implies A B)","(implies B C)"]}
-< {"id":@,"put":"a","version":1}
+< {"id":38,"put":"a","version":1}
 # What is not accepted yet is refused before its texts are read.
 > {"op":"peers","names":["a"]}
-< {"code":17,"error":"not_built","id":@}
+< {"code":17,"error":"not_built","id":39}
 > {"op":"peers","names":[]}
-< {"code":17,"error":"not_built","id":@}
+< {"code":17,"error":"not_built","id":40}
 > {"op":"versions"}
-< {"code":17,"error":"not_built","id":@}
+< {"code":17,"error":"not_built","id":41}
 > {"op":"put","peer":"a"}
-< {"code":17,"error":"not_built","id":@}
+< {"code":17,"error":"not_built","id":42}
 > {"op":"put","peer":"a","axioms":["X"]}
-< {"code":17,"error":"not_built","id":@}
+< {"code":17,"error":"not_built","id":43}
 > {"op":"put","peer":"top"}
-< {"code":17,"error":"not_built","id":@}
+< {"code":17,"error":"not_built","id":44}
 > {"op":"ask","peer":"b","left":"A","right":"C"}
-< {"code":17,"error":"not_built","id":@}
+< {"code":17,"error":"not_built","id":45}
 > {"op":"ask","peer":"a","left":"A","right":"top"}
-< {"code":17,"error":"not_built","id":@}
+< {"code":17,"error":"not_built","id":46}
 > {"op":"ask","peer":"a","left":"(not A","right":"C"}
-< {"code":17,"error":"not_built","id":@}
+< {"code":17,"error":"not_built","id":47}
 > {"op":"ask","peer":"a","left":"A","right":"C","expansions":0}
-< {"code":17,"error":"not_built","id":@}
+< {"code":17,"error":"not_built","id":48}
 > {"op":"ask","peer":"a","left":"A","right":"C","verdicts":18446744073709551615}
-< {"code":17,"error":"not_built","id":@}
+< {"code":17,"error":"not_built","id":49}
 > {"op":"check","peer":"b","left":"A","right":"C","pin":[1],"cert":{}}
-< {"code":17,"error":"not_built","id":@}
+< {"code":17,"error":"not_built","id":50}
 > {"op":"check","peer":"a","left":"(","right":"C","pin":[],"cert":{"kind":"yes"}}
-< {"code":17,"error":"not_built","id":@}
+< {"code":17,"error":"not_built","id":51}
 > {"op":"ask","peer":"a","left":"A","right":"C"}
-< {"id":@,"pin":[1],"verdict":"yes"}
+< {"id":52,"pin":[1],"verdict":"yes"}
 # A value of no form is refused.
 > null
-< {"code":2,"error":"bad_shape","id":@}
+< {"code":2,"error":"bad_shape","id":53}
 > 7
-< {"code":2,"error":"bad_shape","id":@}
+< {"code":2,"error":"bad_shape","id":54}
 > "versions"
-< {"code":2,"error":"bad_shape","id":@}
+< {"code":2,"error":"bad_shape","id":55}
 > []
-< {"code":2,"error":"bad_shape","id":@}
+< {"code":2,"error":"bad_shape","id":56}
 > {}
-< {"code":2,"error":"bad_shape","id":@}
+< {"code":2,"error":"bad_shape","id":57}
 > {"op":"Ask","peer":"a","left":"A","right":"C"}
-< {"code":2,"error":"bad_shape","id":@}
+< {"code":2,"error":"bad_shape","id":58}
 > {"op":["versions"]}
-< {"code":2,"error":"bad_shape","id":@}
+< {"code":2,"error":"bad_shape","id":59}
 > {"op":"versions","peer":"a"}
-< {"code":2,"error":"bad_shape","id":@}
+< {"code":2,"error":"bad_shape","id":60}
 > {"op":"peers"}
-< {"code":2,"error":"bad_shape","id":@}
+< {"code":2,"error":"bad_shape","id":61}
 > {"op":"peers","names":"a"}
-< {"code":2,"error":"bad_shape","id":@}
+< {"code":2,"error":"bad_shape","id":62}
 > {"op":"peers","names":["a",null]}
-< {"code":2,"error":"bad_shape","id":@}
+< {"code":2,"error":"bad_shape","id":63}
 > {"op":"put","peer":"a","axioms":null}
-< {"code":2,"error":"bad_shape","id":@}
+< {"code":2,"error":"bad_shape","id":64}
 > {"op":"put","peer":"a","axioms":[1]}
-< {"code":2,"error":"bad_shape","id":@}
+< {"code":2,"error":"bad_shape","id":65}
 > {"op":"put","peer":"a","into":[{"from":"b","source":"X"}]}
-< {"code":2,"error":"bad_shape","id":@}
+< {"code":2,"error":"bad_shape","id":66}
 > {"op":"put","peer":"a","onto":[{"from":"b","source":"X","target":"Y","x":0}]}
-< {"code":2,"error":"bad_shape","id":@}
+< {"code":2,"error":"bad_shape","id":67}
 > {"op":"ask","peer":"a","left":"A"}
-< {"code":2,"error":"bad_shape","id":@}
+< {"code":2,"error":"bad_shape","id":68}
 > {"op":"ask","peer":"a","left":"A","right":"C","pin":[1]}
-< {"code":2,"error":"bad_shape","id":@}
+< {"code":2,"error":"bad_shape","id":69}
 > {"op":"check","peer":"a","left":"A","right":"C","pin":[1]}
-< {"code":2,"error":"bad_shape","id":@}
+< {"code":2,"error":"bad_shape","id":70}
 > {"op":"check","peer":"a","left":"A","right":"C","pin":1,"cert":{}}
-< {"code":2,"error":"bad_shape","id":@}
+< {"code":2,"error":"bad_shape","id":71}
 > {"op":"check","peer":"a","left":"A","right":"C","pin":[1.0],"cert":{}}
-< {"code":2,"error":"bad_shape","id":@}
+< {"code":2,"error":"bad_shape","id":72}
 > {"op":"check","peer":"a","left":"A","right":"C","pin":[4294967296],"cert":{"kind":"yes"}}
-< {"code":2,"error":"bad_shape","id":@}
+< {"code":2,"error":"bad_shape","id":73}
 > 1e999
-< {"code":1,"error":"bad_json","id":@}
+< {"code":1,"error":"bad_json","id":74}
 > {"op":"versions"} x
-< {"code":1,"error":"bad_json","id":@}
+< {"code":1,"error":"bad_json","id":75}
 > {"op":"ask","peer":"a"
-< {"code":1,"error":"bad_json","id":@}
+< {"code":1,"error":"bad_json","id":76}
 > null null
-< {"code":1,"error":"bad_json","id":@}
+< {"code":1,"error":"bad_json","id":77}
 # A number has digits alone.
 > {"op":"ask","peer":"a","left":"A","right":"C","expansions":1.0}
-< {"code":2,"error":"bad_shape","id":@}
+< {"code":2,"error":"bad_shape","id":78}
 > {"op":"ask","peer":"a","left":"A","right":"C","expansions":-0}
-< {"code":2,"error":"bad_shape","id":@}
+< {"code":2,"error":"bad_shape","id":79}
 > {"op":"ask","peer":"a","left":"A","right":"C","expansions":-1}
-< {"code":2,"error":"bad_shape","id":@}
+< {"code":2,"error":"bad_shape","id":80}
 > {"op":"ask","peer":"a","left":"A","right":"C","expansions":1e3}
-< {"code":2,"error":"bad_shape","id":@}
+< {"code":2,"error":"bad_shape","id":81}
 > {"op":"ask","peer":"a","left":"A","right":"C","expansions":18446744073709551616}
-< {"code":2,"error":"bad_shape","id":@}
+< {"code":2,"error":"bad_shape","id":82}
 > {"op":"ask","peer":"a","left":"A","right":"C","expansions":null}
-< {"code":2,"error":"bad_shape","id":@}
+< {"code":2,"error":"bad_shape","id":83}
 > {"op":"ask","peer":"a","left":"A","right":"C","expansions":"1"}
-< {"code":2,"error":"bad_shape","id":@}
+< {"code":2,"error":"bad_shape","id":84}
 # The last of equal members counts.
 > {"op":"versions","left":"C","op":"ask","peer":"b","right":7,"peer":"a","left":"\u0041","right":"C"}
-< {"id":@,"pin":[1],"verdict":"yes"}
+< {"id":85,"pin":[1],"verdict":"yes"}
 > {"op":"ask","peer":"a","left":"A","right":"C","left":"C","right":"A"}
-< {"id":@,"pin":[1],"verdict":"no"}
+< {"id":86,"pin":[1],"verdict":"no"}
 > {"op":"check","peer":"a","left":"A","right":"D","pin":[9],"cert":{"kind":"yes"},"pin":[0],"cert":{"kind":"yes","kind":"no","format":1,"links":7,"links":[],"locals":[{"names":[["A",0]],"roles":[],"size":0,"size":1}]}}
-< {"check":"valid","id":@}
+< {"check":"valid","id":87}
 > {"op":"ask","peer":"a","left":"A","right":"C"}
-< {"id":@,"pin":[1],"verdict":"yes"}
+< {"id":88,"pin":[1],"verdict":"yes"}
 "#;
 
 #[test]

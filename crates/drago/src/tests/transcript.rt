@@ -4,8 +4,11 @@ use std::alloc::{AllocError, Global};
 /// Why a session went otherwise than its transcript.
 #[derive(Debug, Drop)]
 pub enum Failure {
-    /// The first line that was given otherwise: a reply by its number in its session, from 1, or the status behind them.
+    /// The first line that was given otherwise: a reply by its number in its session, from 1, or the status behind
+    /// them. Sessions count from 0.
     Line { session: usize, number: usize },
+    /// What was told of a row of a table, by its number from 0, is not what is wanted.
+    Row { row: usize },
     /// Memory ran out.
     NoMemory,
 }
@@ -18,111 +21,120 @@ impl From<AllocError> for Failure {
 
 /// Whether sessions go as their transcripts say, each to the status 0.
 ///
-/// A line that begins with `> ` is a line of the input, one that begins with `< ` is the reply that is wanted, in which `@`
-/// stands for the number of the line of the input before it, from 1. A line `---` ends a session, and others are remarks.
-/// In a line of the input `~N~TEXT~` stands for N copies of TEXT, in which `#` stands for the number of the copy, from 0;
-/// `^N^TEXT^` does the same, also within such a text.
+/// A line that begins with `> ` is a line of the input, and one that begins with `< ` is the reply that is wanted. A
+/// line `---` ends a session, and others are remarks. In a line of the input `~N*TEXT~` stands for N copies of TEXT,
+/// in which `#` stands, at most once, for the number of the copy, from 0; `^N*TEXT^` does the same, also within such
+/// a text.
 pub fn follows(alloc: Global, transcripts: &str) -> Result<(), Failure> {
-    for (session, transcript) in transcripts.split("\n---\n").enumerate() {
-        if let Some(number) = first_other_line(alloc, transcript)? {
-            return Err(Failure::Line { session, number });
+    let mut input = String::new(alloc);
+    let mut wanted = String::new(alloc);
+    sessions_follow(alloc, transcripts, &mut input, &mut wanted)
+}
+
+fn sessions_follow(
+    alloc: Global,
+    transcripts: &str,
+    input: &mut String,
+    wanted: &mut String,
+) -> Result<(), Failure> {
+    let mut session: usize = 0;
+    for line in transcripts.lines() {
+        if line == "---" {
+            ends_as_wanted(alloc, session, input, wanted)?;
+            session = session.saturating_add(1);
+        } else {
+            add_line(alloc, line, input, wanted)?;
         }
+    }
+    ends_as_wanted(alloc, session, input, wanted)
+}
+
+fn add_line(
+    alloc: Global,
+    line: &str,
+    input: &mut String,
+    wanted: &mut String,
+) -> Result<(), AllocError> {
+    if let Some(text) = line.strip_prefix("> ") {
+        return add_request(alloc, input, text);
+    }
+    if let Some(text) = line.strip_prefix("< ") {
+        wanted.push_str(text)?;
+        wanted.push_str("\n")?;
     }
     Ok(())
 }
 
-fn first_other_line(alloc: Global, transcript: &str) -> Result<Option<usize>, AllocError> {
-    let input = input_of(alloc, transcript)?;
-    let got = answers(alloc, input.as_bytes(), 4096)?;
-    let want = replies_of(alloc, transcript)?;
-    Ok(line_of_difference(got.as_slice(), want.as_bytes()))
+/// Whether a session with this input is told as it is wanted, to the status 0. Leaves both texts empty.
+fn ends_as_wanted(
+    alloc: Global,
+    session: usize,
+    input: &mut String,
+    wanted: &mut String,
+) -> Result<(), Failure> {
+    wanted.push_str("0")?;
+    let told = answers(alloc, input.as_bytes(), 4096)?;
+    let line = first_other_line(told.as_slice(), wanted.as_bytes());
+    input.clear();
+    wanted.clear();
+    match line {
+        Some(number) => Err(Failure::Line { session, number }),
+        None => Ok(()),
+    }
 }
 
-fn line_of_difference(got: &[u8], want: &[u8]) -> Option<usize> {
-    let mut line: usize = 1;
-    for (byte, other) in got.iter().zip(want.iter()) {
-        if byte != other {
-            return Some(line);
+/// The number of the first line that is told otherwise, from 1.
+fn first_other_line(told: &[u8], wanted: &[u8]) -> Option<usize> {
+    let mut number: usize = 1;
+    for at in 0..told.len() {
+        if wanted.get(at) != Some(&told[at]) {
+            return Some(number);
         }
-        if *byte == b'\n' {
-            line = line.saturating_add(1);
+        if told[at] == b'\n' {
+            number = number.saturating_add(1);
         }
     }
-    if got.len() == want.len() {
+    if told.len() == wanted.len() {
         None
     } else {
-        Some(line)
+        Some(number)
     }
-}
-
-fn input_of(alloc: Global, transcript: &str) -> Result<String, AllocError> {
-    let mut input = String::new(alloc);
-    for line in transcript.lines() {
-        if let Some(text) = line.strip_prefix("> ") {
-            add_request(alloc, &mut input, text)?;
-        }
-    }
-    Ok(input)
 }
 
 fn add_request(alloc: Global, input: &mut String, text: &str) -> Result<(), AllocError> {
-    let inner = with_copies(alloc, text, "^")?;
-    let outer = with_copies(alloc, inner.as_str(), "~")?;
-    input.push_str(outer.as_str())?;
+    let mut inner = String::new(alloc);
+    add_with_copies(&mut inner, text, '^')?;
+    add_with_copies(input, inner.as_str(), '~')?;
     input.push_str("\n")
 }
 
-/// A text with its copies written out, which stand between these marks.
-fn with_copies(alloc: Global, text: &str, mark: &str) -> Result<String, AllocError> {
-    let mut whole = String::new(alloc);
-    let mut count: u32 = 0;
-    for (i, part) in text.split(mark).enumerate() {
-        match i % 3 {
-            0 => whole.push_str(part)?,
-            1 => count = part.parse().unwrap_or(0),
-            _ => add_copies(alloc, &mut whole, part, count)?,
-        }
+/// Adds a text with its copies written out, which stand between these marks.
+fn add_with_copies(whole: &mut String, text: &str, mark: char) -> Result<(), AllocError> {
+    for part in text.split(mark) {
+        add_part(whole, part)?;
     }
-    Ok(whole)
+    Ok(())
 }
 
-fn add_copies(alloc: Global, whole: &mut String, text: &str, count: u32) -> Result<(), AllocError> {
+fn add_part(whole: &mut String, part: &str) -> Result<(), AllocError> {
+    if let Some((count, text)) = part.split_once('*') {
+        if let Ok(count) = count.parse() {
+            return add_copies(whole, text, count);
+        }
+    }
+    whole.push_str(part)
+}
+
+fn add_copies(whole: &mut String, text: &str, count: u32) -> Result<(), AllocError> {
     for number in 0..count {
-        add_with_number(alloc, whole, text, "#", number as usize)?;
+        add_copy(whole, text, number)?;
     }
     Ok(())
 }
 
-fn replies_of(alloc: Global, transcript: &str) -> Result<String, AllocError> {
-    let mut replies = String::new(alloc);
-    let mut number: usize = 0;
-    for line in transcript.lines() {
-        if line.starts_with("> ") {
-            number = number.saturating_add(1);
-        }
-        if let Some(text) = line.strip_prefix("< ") {
-            add_with_number(alloc, &mut replies, text, "@", number)?;
-            replies.push_str("\n")?;
-        }
+fn add_copy(whole: &mut String, text: &str, number: u32) -> Result<(), AllocError> {
+    match text.split_once('#') {
+        Some((before, after)) => write!(whole, "{before}{number}{after}"),
+        None => whole.push_str(text),
     }
-    replies.push_str("0")?;
-    Ok(replies)
-}
-
-/// Adds a text, with a number in place of each mark.
-fn add_with_number(
-    alloc: Global,
-    whole: &mut String,
-    text: &str,
-    mark: &str,
-    number: usize,
-) -> Result<(), AllocError> {
-    let digits = format!(in alloc; "{number}")?;
-    for (i, part) in text.split(mark).enumerate() {
-        if i > 0 {
-            whole.push_str(digits.as_str())?;
-        }
-        whole.push_str(part)?;
-    }
-    Ok(())
 }
