@@ -13,7 +13,8 @@ use std::alloc::Global;
 /// Whether a question between names follows at a version that is plain, or at the one from before the first put, of the
 /// only peer.
 ///
-/// It takes no more steps than there are names and axioms.
+/// It takes no more steps than there are names and axioms, and a byte for each number up to the largest that a name of
+/// the axioms or of the question has.
 pub fn decide(alloc: Global, version: Option<&Version>, query: &Query) -> Result<bool, NoMemory>
     requires names { AsksNames query.now }
     requires plain { is_plain (given_version (option_copied version)) ≡ true }
