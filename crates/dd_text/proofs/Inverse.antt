@@ -1,5 +1,5 @@
 -- Reading what was printed, and printing what was read.
-use Rattle.std.proofs.Common.{◌≡◌, ℕ, ◌≤◌, true, List, refl, sym, ap, ◌∙◌, subst, arith}
+use Rattle.std.proofs.Common.{◌≡◌, ℕ, ◌<◌, ◌≤◌, true, List, refl, sym, ap, ◌∙◌, subst, arith}
 use Rattle.std.specs.Prelude.{Result, Ok, Err}
 use Rattle.dd_concept.specs.declared.concept.Concept.{Concept}
 use Rattle.dd_concept.specs.declared.concept.Axiom.{Axiom}
@@ -7,7 +7,7 @@ use Rattle.dd_concept.specs.Counts.{depth_of, node_count}
 use Rattle.dd_text.specs.Symbols.{IsNumbering, SymbolLists, has_text, symbol_count}
 use Rattle.dd_text.specs.Grammar.{Spells, SpellsAxiom, Term, axiom_text, term_depth, term_nodes, term_text}
 use Rattle.dd_text.specs.Text.{axiom_of, axiom_text_of, concept_of, concept_text, has_symbols, names_in, roles_in, term_of, with_term}
-use Rattle.dd_text.specs.Reads.{IsAxiomOf, IsConceptOf, ReadsAxiom, ReadsConcept}
+use Rattle.dd_text.specs.Reads.{IsAxiomOf, IsConceptOf, ReadsAxiom, ReadsConcept, told}
 use Rattle.dd_text.specs.Laws.{ReadsPrinted, ReadsPrintedAxiom}
 use Rattle.dd_text.specs.declared.read.Limits.{Limits}
 use Rattle.dd_text.specs.declared.read.TextErr.{TextErr}
@@ -25,6 +25,13 @@ spells_printed s c b = record { written = b.written; text_is = refl }
 stay : (s : SymbolLists) (c : Concept) (t : Term) → IsBack s c (term_of s c) → t ≡ term_of s c → with_term s t ≡ s
 stay s c t b same = ap (with_term s) same ∙ with_term-present s (term_of s c) b.names b.roles
 
+-- a term that is a concept's has its nodes and its depth
+nodes_of : (s : SymbolLists) (c : Concept) (t : Term) → IsBack s c (term_of s c) → t ≡ term_of s c → term_nodes t ≡ node_count c
+nodes_of s c t b same = ap term_nodes same ∙ sym (node_count-concept_of s (term_of s c)) ∙ ap node_count b.same
+
+depth_of_term : (s : SymbolLists) (c : Concept) (t : Term) → IsBack s c (term_of s c) → t ≡ term_of s c → term_depth t ≡ depth_of c
+depth_of_term s c t b same = ap term_depth same ∙ sym (depth_of-concept_of s (term_of s c)) ∙ ap depth_of b.same
+
 pub printed-reads : (s : SymbolLists) (limits : Limits) (c : Concept) (new : SymbolLists) (result : Result Concept TextErr) → IsNumbering s → has_symbols s c ≡ true → ReadsConcept s limits (concept_text s c) new result → (new ≡ s) × ReadsPrinted limits c result
 printed-reads s limits c new (Ok d) numbering there h =
     let b = written_back s numbering c there in
@@ -37,11 +44,13 @@ printed-reads s limits c new (Err (err.Bad at)) numbering there h =
 printed-reads s limits c new (Err (err.TooLarge nodes)) numbering there h =
     let b = written_back s numbering c there in
     let same = Spells-unique (concept_text s c) h.1.0 (term_of s c) h.1.1 (spells_printed s c b) in
-    (h.0, omega (arith, h.1.2, ap term_nodes same, node_count-concept_of s (term_of s c), ap node_count b.same))
+    let count = nodes_of s c h.1.0 b same in
+    (h.0, (subst (λ n. limits.nodes < n) count h.1.2, h.1.3 ∙ ap told count))
 printed-reads s limits c new (Err (err.TooDeep depth)) numbering there h =
     let b = written_back s numbering c there in
     let same = Spells-unique (concept_text s c) h.1.0 (term_of s c) h.1.1 (spells_printed s c b) in
-    (h.0, omega (arith, h.1.3, ap term_depth same, depth_of-concept_of s (term_of s c), ap depth_of b.same))
+    let depth_is = depth_of_term s c h.1.0 b same in
+    (h.0, (subst (λ n. n ≤ limits.nodes) (nodes_of s c h.1.0 b same) h.1.2, subst (λ n. limits.depth < n) depth_is h.1.3, h.1.4 ∙ ap told depth_is))
 printed-reads s limits c new (Err err.SymbolsFull) numbering there h =
     let b = written_back s numbering c there in
     let same = Spells-unique (concept_text s c) h.1.0 (term_of s c) h.1.1 (spells_printed s c b) in
@@ -53,13 +62,6 @@ spells_printed_axiom s a bl br = record { left_written = bl.written; right_writt
 
 stay_both : (s : SymbolLists) (a : Axiom) (l r : Term) → IsBack s a.left (term_of s a.left) → IsBack s a.right (term_of s a.right) → (l ≡ term_of s a.left) × (r ≡ term_of s a.right) → with_term (with_term s l) r ≡ s
 stay_both s a l r bl br same = ap (λ z. with_term z r) (stay s a.left l bl same.0) ∙ stay s a.right r br same.1
-
--- a term that is a concept's has its nodes and its depth
-side_nodes : (s : SymbolLists) (c : Concept) (t : Term) → IsBack s c (term_of s c) → t ≡ term_of s c → term_nodes t ≡ node_count c
-side_nodes s c t b same = ap term_nodes same ∙ sym (node_count-concept_of s (term_of s c)) ∙ ap node_count b.same
-
-side_depth : (s : SymbolLists) (c : Concept) (t : Term) → IsBack s c (term_of s c) → t ≡ term_of s c → term_depth t ≡ depth_of c
-side_depth s c t b same = ap term_depth same ∙ sym (depth_of-concept_of s (term_of s c)) ∙ ap depth_of b.same
 
 abbrev axiom_from : Concept → Concept → Axiom
 axiom_from l r = record { left = l; right = r }
@@ -87,17 +89,17 @@ printed-axiom-reads s limits a new (Err (err.TooLarge nodes)) numbering hl hr h 
     let bl = written_back s numbering a.left hl in
     let br = written_back s numbering a.right hr in
     let same = SpellsAxiom-unique (axiom_text_of s a) h.1.0 h.1.1 (term_of s a.left) (term_of s a.right) h.1.2 (spells_printed_axiom s a bl br) in
-    (h.0, (h.1.3, first_over limits.nodes _ _ _ _ h.1.3 (side_nodes s a.left h.1.0 bl same.0) (side_nodes s a.right h.1.1 br same.1) h.1.4, h.1.5))
+    (h.0, (h.1.3, first_over limits.nodes _ _ _ _ h.1.3 (nodes_of s a.left h.1.0 bl same.0) (nodes_of s a.right h.1.1 br same.1) h.1.4, h.1.5))
 printed-axiom-reads s limits a new (Err (err.TooDeep depth)) numbering hl hr h =
     let bl = written_back s numbering a.left hl in
     let br = written_back s numbering a.right hr in
     let same = SpellsAxiom-unique (axiom_text_of s a) h.1.0 h.1.1 (term_of s a.left) (term_of s a.right) h.1.2 (spells_printed_axiom s a bl br) in (
       h.0,
       (
-        subst (λ n. n ≤ limits.nodes) (side_nodes s a.left h.1.0 bl same.0) h.1.3,
-        subst (λ n. n ≤ limits.nodes) (side_nodes s a.right h.1.1 br same.1) h.1.4,
+        subst (λ n. n ≤ limits.nodes) (nodes_of s a.left h.1.0 bl same.0) h.1.3,
+        subst (λ n. n ≤ limits.nodes) (nodes_of s a.right h.1.1 br same.1) h.1.4,
         h.1.5,
-        first_over limits.depth _ _ _ _ h.1.5 (side_depth s a.left h.1.0 bl same.0) (side_depth s a.right h.1.1 br same.1) h.1.6,
+        first_over limits.depth _ _ _ _ h.1.5 (depth_of_term s a.left h.1.0 bl same.0) (depth_of_term s a.right h.1.1 br same.1) h.1.6,
         h.1.7,
       ),
     )

@@ -18,10 +18,11 @@ ConceptTextsAreUnique = (text : List ℕ) (t u : Term) → Spells text t → Spe
 abbrev pub AxiomTextsAreUnique : Type 0
 AxiomTextsAreUnique = (text : List ℕ) (l r l' r' : Term) → SpellsAxiom text l r → SpellsAxiom text l' r' → (l ≡ l') × (r ≡ r')
 
--- why the text of this concept is refused: it is too large or too deep, or there is no memory
+-- why the text of this concept is refused: it is too large, or it is not and is too deep, each told with its number; or
+-- there is no memory
 abbrev pub RefusesPrinted : Limits → Concept → TextErr → Type 0
-RefusesPrinted limits c (err.TooLarge nodes) = limits.nodes < node_count c
-RefusesPrinted limits c (err.TooDeep depth) = limits.depth < depth_of c
+RefusesPrinted limits c (err.TooLarge nodes) = (limits.nodes < node_count c) × (nodes ≡ told (node_count c))
+RefusesPrinted limits c (err.TooDeep depth) = (node_count c ≤ limits.nodes) × (limits.depth < depth_of c) × (depth ≡ told (depth_of c))
 RefusesPrinted limits c err.NoMemory = Unit {0}
 RefusesPrinted limits c e = ⊥
 

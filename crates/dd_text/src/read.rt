@@ -12,7 +12,7 @@ use std::alloc::Global;
 use thiserror::Error;
 
 /// The most nodes that a concept may have, and how deep it may be. A role is no node; a concept without parts has depth 1.
-#[derive(Clone, Copy, Debug)]
+#[derive(Clone, Copy)]
 pub struct Limits {
     pub nodes: u32,
     pub depth: u32,

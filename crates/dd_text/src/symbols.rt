@@ -33,7 +33,7 @@ impl Model for Symbols {
 }
 
 /// How many names and how many roles there were at one moment.
-#[derive(Clone, Copy, Debug)]
+#[derive(Clone, Copy)]
 pub struct Mark {
     pub names: u32,
     pub roles: u32,
