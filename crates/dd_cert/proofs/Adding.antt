@@ -1,8 +1,9 @@
 -- Symbols grow as those of items are added one after another.
-use Rattle.std.proofs.Common.{◌≡◌, ℕ, suc, ◌+◌, ◌<◌, Bool, true, List, [], ◌∷◌, length, drop, get_or, sym, ap, ◌∙◌, arith}
+use Rattle.std.proofs.Common.{◌≡◌, ℕ, suc, ◌+◌, ◌<◌, ◌≤◌, Bool, true, List, [], ◌∷◌, length, drop, get_or, sym, ap, ◌∙◌, arith}
 use Rattle.std.specs.Prelude.{◌&&◌}
 use Rattle.std.specs.List.{list_all}
 use Rattle.std.proofs.Math.Seq.{drop-cons}
+use Rattle.std.proofs.lemmas.List.{drop_all}
 use Rattle.dd_text.specs.Symbols.{SymbolLists, Grows, symbol_count}
 use Rattle.dd_text.proofs.Building.{Grows-refl, Grows-trans, symbol_count-Grows}
 use Rattle.dd_text.proofs.Numbering.{Appends-refl, Appends-with_text}
@@ -17,7 +18,7 @@ pub Grows-with_role : (s : SymbolLists) (r : List ℕ × ℕ × ℕ) → Grows s
 Grows-with_role s r = record { names = Appends-refl s.names; roles = Appends-with_text s.roles r.0 }
 
 -- the rest of a list from i on begins with what stands there
-drop-next : {X : Type 0} → (xs : List X) (i : ℕ) (x : X) → i < length xs → x ≡ get_or xs i x → drop i xs ≡ x ∷ drop (i + 1) xs
+pub drop-next : {X : Type 0} → (xs : List X) (i : ℕ) (x : X) → i < length xs → x ≡ get_or xs i x → drop i xs ≡ x ∷ drop (i + 1) xs
 drop-next xs i x h e = drop-cons xs i x h ∙ ap (λ y. y ∷ drop (suc i) xs) (sym e) ∙ ap (λ n. x ∷ drop n xs) (let s : suc i ≡ i + 1 = omega arith in s)
 
 module _ {X : Type 0} (step : SymbolLists → X → SymbolLists) (grows : (s : SymbolLists) (x : X) → Grows s (step s x)) where
@@ -61,3 +62,7 @@ module _ {X : Type 0} (p : X → Bool) where
 pub gather-next : {X : Type 0} → (step : SymbolLists → X → SymbolLists) (start s t : SymbolLists) (xs : List X) (i : ℕ) (x : X) → i < length xs → x ≡ get_or xs i x
     → gather step start xs ≡ gather step s (drop i xs) → t ≡ step s x → gather step start xs ≡ gather step t (drop (i + 1) xs)
 gather-next step start s t xs i x h is same e = same ∙ ap (gather step s) (drop-next xs i x h is) ∙ ap (λ u. gather step u (drop (i + 1) xs)) (sym e)
+
+-- at the end all are added
+pub gather-all : {X : Type 0} → (step : SymbolLists → X → SymbolLists) (start s : SymbolLists) (xs : List X) (i : ℕ) → gather step start xs ≡ gather step s (drop i xs) → length xs ≤ i → s ≡ gather step start xs
+gather-all step start s xs i same past = sym (same ∙ ap (gather step s) (drop_all i xs past))

@@ -2,3 +2,6 @@ pub mod Adding
 pub mod Certifying
 pub mod OtherLengths
 pub mod Passing
+mod Loops
+mod Entries
+mod Finding

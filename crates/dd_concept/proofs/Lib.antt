@@ -4,3 +4,4 @@ pub mod Bounds
 pub mod NormalForms
 pub mod Results
 pub mod Equations
+mod Sameness

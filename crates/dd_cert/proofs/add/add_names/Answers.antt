@@ -1,6 +1,6 @@
 use Rattle.dd_cert.specs.Passes.{with_name, has_name}
 use Rattle.dd_text.proofs.Building.{Grows-trans}
-use Rattle.dd_cert.proofs.Adding.{Grows-with_name, full-at, gather-next, passes-here, passes-later}
+use Rattle.dd_cert.proofs.Adding.{Grows-with_name, full-at, gather-all, gather-next, passes-here, passes-later}
 use Rattle.dd_cert.proofs.add.add_names.Goals as goal
 
 pub add_name-requires : goal.add_name-requires
@@ -23,3 +23,6 @@ loop-name-preserved c =
       few = added.few;
       grows = Grows-trans c.args.symbols.now s c.add_name.new.symbols before.grows added.grows;
     }
+
+pub returns-clause-ok : goal.returns-clause-ok
+returns-clause-ok c = gather-all with_name c.args.symbols.now c.loop-name.symbols c.args.names.now c.loop-name.name-index c.loop-name.invariant.same c.loop-name-test.false

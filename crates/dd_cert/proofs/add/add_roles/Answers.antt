@@ -1,6 +1,6 @@
 use Rattle.dd_cert.specs.Passes.{with_role, has_role}
 use Rattle.dd_text.proofs.Building.{Grows-trans}
-use Rattle.dd_cert.proofs.Adding.{Grows-with_role, full-at, gather-next, passes-here, passes-later}
+use Rattle.dd_cert.proofs.Adding.{Grows-with_role, full-at, gather-all, gather-next, passes-here, passes-later}
 use Rattle.dd_cert.proofs.add.add_roles.Goals as goal
 
 pub add_role-requires : goal.add_role-requires
@@ -23,3 +23,6 @@ loop-role-preserved c =
       few = added.few;
       grows = Grows-trans c.args.symbols.now s c.add_role.new.symbols before.grows added.grows;
     }
+
+pub returns-clause-ok : goal.returns-clause-ok
+returns-clause-ok c = gather-all with_role c.args.symbols.now c.loop-role.symbols c.args.roles.now c.loop-role.role-index c.loop-role.invariant.same c.loop-role-test.false
