@@ -1,4 +1,4 @@
-ghost use Rattle.std.specs.Prelude.{◌≡◌, ◌<◌, ◌+◌, ◌^◌, IfOk, All, length, Result};
+ghost use Rattle.std.specs.Prelude.{◌≡◌, ◌<◌, ◌+◌, ◌^◌, IfOk, OnErr, All, length, Result};
 ghost use Rattle.serde_json.specs.View.{view};
 ghost use Rattle.dd_told.specs.Answers.{Job};
 ghost use Rattle.dd_text.specs.Symbols.{Grows};
@@ -78,7 +78,8 @@ fn told(fault: WorldFault) -> BadWorld
 
 /// The reply where a certificate cannot be read.
 fn unread(id: u64, e: CertErr) -> Result<Reply, NoMemory>
-    ensures { IfOk result (λ reply. (found : Tried Certified) → Tells e found → Unreads id found reply) }
+    ensures unreads { IfOk result (λ reply. (found : Tried Certified) → Tells e found → Unreads id found reply) }
+    ensures memory { OnErr result (e ≡ CertErr.NoMemory) }
 {
     match e {
         CertErr::Shape { field } => Ok(Reply::Unreadable {

@@ -1,4 +1,4 @@
-ghost use Rattle.std.specs.Prelude.{◌≡◌, IfOk, None, Some};
+ghost use Rattle.std.specs.Prelude.{◌≡◌, IfOk, OnErr, None, Some};
 ghost use Rattle.dd_wire.specs.declared.reply.Reply.TheVariants as reply;
 ghost use Rattle.dd_server.specs.Session.{refused_version};
 ghost use Rattle.dd_server.specs.Turns.{RefusesLine};
@@ -16,7 +16,8 @@ pub fn refused(id: u64, code: u8) -> Reply
 
 /// The reply to a line that is no request, for this reason.
 pub fn refused_line(id: u64, e: WireErr) -> Result<Reply, NoMemory>
-    ensures { IfOk result (RefusesLine id e) }
+    ensures refuses { IfOk result (RefusesLine id e) }
+    ensures memory { OnErr result (e ≡ WireErr.NoMemory) }
 {
     match e {
         WireErr::Code { code, n } => Ok(Reply::Refused { id, code, n }),

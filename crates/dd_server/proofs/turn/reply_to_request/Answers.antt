@@ -5,7 +5,7 @@ use Rattle.dd_server.proofs.Accepting.{refused_line_answered, not_built_answered
 use Rattle.dd_server.proofs.turn.reply_to_request.Goals as goal
 
 pub returns-in-Err-clause-answered : goal.returns-in-Err-clause-answered
-returns-in-Err-clause-answered c = refused_line_answered c.refused_line.result (state_of c.args.session.now) c.args.id c.args.line.now c.in-Err.e c.in-Err.ensures.refused c.refused_line.ensures
+returns-in-Err-clause-answered c = refused_line_answered c.refused_line.result (state_of c.args.session.now) c.args.id c.args.line.now c.in-Err.e c.in-Err.ensures.refused c.refused_line.ensures.refuses
 
 pub returns-then-not-is_built-clause-answered : goal.returns-then-not-is_built-clause-answered
 returns-then-not-is_built-clause-answered c = not_built_answered (state_of c.args.session.now) c.args.id c.args.line.now (written_of c.in-Ok.form) c.refused.result c.in-Ok.ensures.ok

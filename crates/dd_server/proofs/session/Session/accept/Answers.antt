@@ -47,4 +47,4 @@ returns-in-Err-clause-answered c =
     let w = written_of c.args.form in
     let y = c.resolve.new.symbols in
     let reads = reads_at (option_copied c.as_ref.result) c.args.self.now.names c.args.self.now.symbols y w (Err c.in-Err.e) c.as_ref.ensures.value c.in-Err.ensures.reads in
-    refused_form c.refused_line.result s y c.args.id w c.in-Err.e reads c.refused_line.ensures
+    refused_form c.refused_line.result s y c.args.id w c.in-Err.e reads c.refused_line.ensures.refuses
