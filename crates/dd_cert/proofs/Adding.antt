@@ -1,11 +1,10 @@
 -- Symbols grow as those of items are added one after another.
-use Rattle.std.proofs.Common.{◌≡◌, ℕ, suc, ◌+◌, ◌<◌, ◌≤◌, Bool, true, List, [], ◌∷◌, length, drop, get_or, sym, ap, ◌∙◌, arith}
+use Rattle.std.proofs.Common.{◌≡◌, ℕ, ◌+◌, ◌<◌, ◌≤◌, Bool, true, List, [], ◌∷◌, length, drop, get_or, sym, ap, ◌∙◌, arith}
 use Rattle.std.specs.Prelude.{◌&&◌}
 use Rattle.std.specs.List.{list_all}
-use Rattle.std.proofs.Math.Seq.{drop-cons}
 use Rattle.std.proofs.lemmas.List.{drop_all}
 use Rattle.dd_text.specs.Symbols.{SymbolLists, Grows, symbol_count}
-use Rattle.dd_text.proofs.Building.{Grows-refl, Grows-trans, symbol_count-Grows}
+use Rattle.dd_text.proofs.Building.{Grows-refl, Grows-trans, drop-next, symbol_count-Grows}
 use Rattle.dd_text.proofs.Numbering.{Appends-refl, Appends-with_text}
 use Rattle.dd_text.proofs.Reading.{left_of, right_of}
 use Rattle.dd_cert.specs.declared.form.LocalForm.{LocalForm}
@@ -16,10 +15,6 @@ Grows-with_name s n = record { names = Appends-with_text s.names n.0; roles = Ap
 
 pub Grows-with_role : (s : SymbolLists) (r : List ℕ × ℕ × ℕ) → Grows s (with_role s r)
 Grows-with_role s r = record { names = Appends-refl s.names; roles = Appends-with_text s.roles r.0 }
-
--- the rest of a list from i on begins with what stands there
-pub drop-next : {X : Type 0} → (xs : List X) (i : ℕ) (x : X) → i < length xs → x ≡ get_or xs i x → drop i xs ≡ x ∷ drop (i + 1) xs
-drop-next xs i x h e = drop-cons xs i x h ∙ ap (λ y. y ∷ drop (suc i) xs) (sym e) ∙ ap (λ n. x ∷ drop n xs) (let s : suc i ≡ i + 1 = omega arith in s)
 
 module _ {X : Type 0} (step : SymbolLists → X → SymbolLists) (grows : (s : SymbolLists) (x : X) → Grows s (step s x)) where
   pub Grows-gather : (s : SymbolLists) (xs : List X) → Grows s (gather step s xs)

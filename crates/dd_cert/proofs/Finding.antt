@@ -7,7 +7,7 @@ use Rattle.serde_json.specs.View.{view, items_view}
 use Rattle.serde_json.specs.declared.value.Value.{Value}
 use Rattle.dd_json.specs.Members.{◌>>=◌}
 use Rattle.dd_cert.specs.Forms.{each_of}
-use Rattle.dd_cert.proofs.Adding.{drop-next}
+use Rattle.dd_text.proofs.Building.{drop-next}
 
 with_more : {A : Type 0} → (found : List A) (y : A) (rest : Option (List A)) → (rest >>= λ ys. Some ((found ++ y ∷ []) ++ ys)) ≡ (option_map (λ ys. y ∷ ys) rest >>= λ ys. Some (found ++ ys))
 with_more found y None = refl

@@ -3,7 +3,7 @@ use Rattle.std.proofs.Common.{◌≡◌, ℕ, ◌+◌, ◌<◌, ◌≤◌, List,
 use Rattle.std.proofs.lemmas.List.{drop_all, map-append, take_all, take_more}
 use Rattle.dd_cert.specs.declared.read.CertErr.{CertErr}
 use Rattle.dd_cert.specs.Passes.{◌>>=◌, walk}
-use Rattle.dd_cert.proofs.Adding.{drop-next}
+use Rattle.dd_text.proofs.Building.{drop-next}
 
 -- ---- a walk, of which the rest from i on is to be walked from a place
 

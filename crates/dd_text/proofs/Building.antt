@@ -1,8 +1,7 @@
 -- The nodes of a term in the order of its text give back the term, its symbols and its concept.
-use Rattle.std.proofs.Common.{◌≡◌, ℕ, suc, ◌+◌, ◌<◌, ◌≤◌, true, List, [], ◌∷◌, ◌++◌, length, drop, get_or, refl, sym, ap, ◌∙◌, arith, append_assoc, length-append}
+use Rattle.std.proofs.Common.{◌≡◌, ℕ, ◌+◌, ◌<◌, ◌≤◌, true, List, [], ◌∷◌, ◌++◌, length, drop, get_or, refl, sym, ap, ◌∙◌, arith, append_assoc, length-append}
 use Rattle.std.specs.List.{list_all}
-use Rattle.std.proofs.lemmas.List.{append-nil}
-use Rattle.std.proofs.Math.Seq.{drop-cons}
+use Rattle.std.proofs.lemmas.List.{append-nil, drop_more}
 use Rattle.dd_concept.specs.declared.concept.Concept.{Concept}
 use Rattle.dd_concept.specs.declared.concept.Concept.TheVariants as concept
 use Rattle.dd_text.specs.Names.{names_a_thing}
@@ -154,10 +153,9 @@ Grows-with_term s t = record { names = Appends-with_texts s.names (names_in t); 
 pub symbol_count-Grows : (s t : SymbolLists) → Grows s t → symbol_count s ≤ symbol_count t
 symbol_count-Grows s t h = omega (arith, length-Appends s.names t.names h.names, length-Appends s.roles t.roles h.roles)
 
--- the next node
-pub drop-next : (signs : List Sign) (j : ℕ) (x : Sign) → j < length signs → x ≡ get_or signs j x → drop j signs ≡ x ∷ drop (j + 1) signs
-drop-next signs j x short is =
-    drop-cons signs j x short ∙ ap (λ (y : Sign). y ∷ drop (suc j) signs) (sym is) ∙ ap (λ n. x ∷ drop n signs) (let e : suc j ≡ j + 1 = omega arith in e)
+-- the rest of a list from i on begins with the item that stands there
+pub drop-next : {X : Type 0} → (xs : List X) (i : ℕ) (x : X) → i < length xs → x ≡ get_or xs i x → drop i xs ≡ x ∷ drop (i + 1) xs
+drop-next xs i x short is = drop_more xs i x short ∙ ap (λ y. y ∷ drop (i + 1) xs) (sym is)
 
 pub with_signs-next : (s t : SymbolLists) (signs : List Sign) (j : ℕ) (x : Sign) → drop j signs ≡ x ∷ drop (j + 1) signs → t ≡ with_sign s x → with_signs s (drop j signs) ≡ with_signs t (drop (j + 1) signs)
 with_signs-next s t signs j x next is = ap (with_signs s) next ∙ ap (λ u. with_signs u (drop (j + 1) signs)) (sym is)

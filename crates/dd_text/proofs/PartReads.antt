@@ -1,8 +1,7 @@
 -- From how far the automaton came to what is told of a text: the concept that it is, or the place where it leaves the grammar.
-use Rattle.std.proofs.Common.{◌≡◌, ℕ, suc, ◌+◌, ◌<◌, ◌≤◌, Bool, true, false, List, [], ◌∷◌, ◌++◌, length, drop, get_or, refl, sym, ap, ◌∙◌, subst, arith, append_assoc, length-append, length-drop}
+use Rattle.std.proofs.Common.{◌≡◌, ℕ, ◌+◌, ◌<◌, ◌≤◌, Bool, true, false, List, [], ◌∷◌, ◌++◌, length, drop, get_or, refl, sym, ap, ◌∙◌, subst, arith, append_assoc, length-append, length-drop}
 use Rattle.std.specs.Prelude.{not}
-use Rattle.std.proofs.lemmas.List.{append-nil}
-use Rattle.std.proofs.Math.Seq.{drop-cons}
+use Rattle.std.proofs.lemmas.List.{append-nil, drop_more}
 use Rattle.std.proofs.Math.ListN.{drop_of_length-le}
 use Rattle.dd_text.specs.Names.{is_byte_of_name}
 use Rattle.dd_text.specs.Grammar.{Term, term_text, is_written, IsConceptText, Begins, IsBadAt}
@@ -82,7 +81,7 @@ module _ (text : List ℕ) (r : Scanned) (h : Scans text r) where
   before-from end ends whole short byte =
       let front = whole-front whole in
       let rest_is : (reach start text).1 ≡ end ∷ drop (r.read + 1) text =
-      sym h.rest ∙ drop-cons text r.read 0 short ∙ ap (λ (c : ℕ). c ∷ drop (suc r.read) text) byte ∙ ap (λ n. end ∷ drop n text) (let e : suc r.read ≡ r.read + 1 = omega arith in e) in
+      sym h.rest ∙ drop_more text r.read 0 short ∙ ap (λ (c : ℕ). c ∷ drop (r.read + 1) text) byte in
       let is : text ≡ term_text front.term ++ end ∷ drop (r.read + 1) text =
       way.text_is ∙ ap (λ l. l ++ (reach start text).1) front.text_is ∙ ap (λ l. term_text front.term ++ l) rest_is in
       record {

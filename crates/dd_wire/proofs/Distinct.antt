@@ -1,13 +1,13 @@
 -- Different names, which a list of symbols takes one by one.
-use Rattle.std.proofs.Common.{◌≡◌, ◌<◌, ℕ, suc, ◌+◌, ◌-◌, Bool, true, false, not, cond, ◌&&◌, ◌||◌, List, [], ◌∷◌, ◌++◌, length, take, drop, get_or, refl, sym, ap, ◌∙◌, subst, arith, take-append-drop}
+use Rattle.std.proofs.Common.{◌≡◌, ◌<◌, ℕ, ◌+◌, ◌-◌, Bool, true, false, not, cond, ◌&&◌, ◌||◌, List, [], ◌∷◌, ◌++◌, length, take, drop, get_or, refl, sym, ap, ◌∙◌, subst, take-append-drop}
 use Rattle.std.specs.Prelude.{IsTrue, nat_le}
 use Rattle.std.specs.List.{list_all}
 use Rattle.std.specs.Str.{bytes_eq}
 use Rattle.std.proofs.lemmas.List.{take_more, take_rest}
-use Rattle.std.proofs.Math.Seq.{drop-cons}
 use Rattle.std.proofs.lemmas.Slice.Eq.{bytes_eq-Decides}
 use Rattle.dd_text.specs.Names.{names_a_thing}
 use Rattle.dd_text.specs.Symbols.{has_text, with_text}
+use Rattle.dd_text.proofs.Building.{drop-next}
 use Rattle.dd_text.proofs.Numbering.{has_text-append, bytes_eq-same}
 use Rattle.dd_text.proofs.Reading.{left_of, right_of}
 use Rattle.dd_wire.specs.Placed.{are_distinct, are_peers, most_peers}
@@ -15,12 +15,8 @@ use Rattle.dd_wire.specs.Placed.{are_distinct, are_peers, most_peers}
 abbrev Texts : Type 0
 Texts = List (List ℕ)
 
-next_text : (xs : Texts) (i : ℕ) (x : List ℕ) → i < length xs → x ≡ get_or xs i x → drop i xs ≡ x ∷ drop (i + 1) xs
-next_text xs i x short is =
-    drop-cons xs i x short ∙ ap (λ (y : List ℕ). y ∷ drop (suc i) xs) (sym is) ∙ ap (λ n. x ∷ drop n xs) (let e : suc i ≡ i + 1 = omega arith in e)
-
 pub distinct_next : (xs : Texts) (i : ℕ) (x : List ℕ) → i < length xs → x ≡ get_or xs i x → are_distinct (drop i xs) ≡ (not (has_text (drop (i + 1) xs) x) && are_distinct (drop (i + 1) xs))
-distinct_next xs i x short is = ap are_distinct (next_text xs i x short is)
+distinct_next xs i x short is = ap are_distinct (drop-next xs i x short is)
 
 pub twice_is_told : (xs : Texts) (i : ℕ) (x : List ℕ) → i < length xs → x ≡ get_or xs i x → are_distinct xs ≡ are_distinct (drop i xs) → has_text (drop (i + 1) xs) x ≡ true → false ≡ are_distinct xs
 twice_is_told xs i x short is whole there = sym (whole ∙ distinct_next xs i x short is ∙ ap (λ b. not b && are_distinct (drop (i + 1) xs)) there)
@@ -68,7 +64,7 @@ peers_distinct names h = right_of (nat_le 1 (length names) && nat_le (length nam
 -- the next name is new, and comes behind those before it
 pub next_name : (names texts texts' : Texts) (i : ℕ) (x y : List ℕ) → IsTrue (are_peers names) → i < length names → x ≡ get_or names i x → y ≡ x → texts ≡ take i names → texts' ≡ with_text texts y → texts' ≡ take (i + 1) names
 next_name names texts texts' i x y peers short is same so_far more =
-    let split : names ≡ take i names ++ x ∷ drop (i + 1) names = sym (take-append-drop i names) ∙ ap (λ l. take i names ++ l) (next_text names i x short is) in
+    let split : names ≡ take i names ++ x ∷ drop (i + 1) names = sym (take-append-drop i names) ∙ ap (λ l. take i names ++ l) (drop-next names i x short is) in
     let absent : has_text (take i names) x ≡ false = new_at (take i names) (drop (i + 1) names) x (ap are_distinct (sym split) ∙ peers_distinct names peers) in
     more ∙ ap (with_text texts) same ∙ ap (λ l. with_text l x) so_far ∙ ap (λ b. cond b (take i names) (take i names ++ x ∷ [])) absent
     ∙ ap (λ (y : List ℕ). take i names ++ y ∷ []) is ∙ sym (take_more names i x short)

@@ -1,14 +1,13 @@
 -- Readers of several texts: what was read behind what was read, and their loops.
-use Rattle.std.proofs.Common.{◌≡◌, ◌≤◌, ◌<◌, ℕ, suc, ◌+◌, List, [], ◌∷◌, ◌++◌, length, map, drop, get_or, Some, Result, Ok, Err, OnOk, true, false, refl, sym, ap, ◌∙◌, subst, arith, append_assoc}
+use Rattle.std.proofs.Common.{◌≡◌, ◌≤◌, ◌<◌, ℕ, ◌+◌, List, [], ◌∷◌, ◌++◌, length, map, drop, get_or, Some, Result, Ok, Err, OnOk, true, false, refl, sym, ap, ◌∙◌, subst, arith, append_assoc}
 use Rattle.std.specs.Prelude.{is_err}
 use Rattle.std.proofs.lemmas.List.{append-nil, map-append, drop_all}
-use Rattle.std.proofs.Math.Seq.{drop-cons}
 use Rattle.dd_concept.specs.declared.concept.Concept.{Concept}
 use Rattle.dd_concept.specs.declared.concept.Axiom.{Axiom}
 use Rattle.dd_peer.specs.declared.version.Rule.{Rule}
 use Rattle.dd_text.specs.Grammar.{Term}
 use Rattle.dd_text.specs.Text.{concept_of}
-use Rattle.dd_text.proofs.Building.{Grows-trans}
+use Rattle.dd_text.proofs.Building.{Grows-trans, drop-next}
 use Rattle.dd_wire.specs.declared.form.RuleForm.{RuleForm}
 use Rattle.dd_wire.specs.declared.request.WireErr.{WireErr}
 use Rattle.dd_wire.specs.declared.request.WireErr.TheVariants.{Code, NoMemory}
@@ -65,21 +64,17 @@ module _ (I V : Type 0) (Reads : Progress → List I → Progress → Result (Li
   pub reaches_start : (start : Progress) (items : List I) → Reaches I V Reads start items start 0 []
   reaches_start start items new r h = subst (Reads start items new) (sym (behind-nil r)) h
 
-  next_item : (items : List I) (i : ℕ) (x : I) → i < length items → x ≡ get_or items i x → drop i items ≡ x ∷ drop (i + 1) items
-  next_item items i x short is =
-      drop-cons items i x short ∙ ap (λ (y : I). y ∷ drop (suc i) items) (sym is) ∙ ap (λ n. x ∷ drop n items) (let e : suc i ≡ i + 1 = omega arith in e)
-
   pub reaches_next : (start here next : Progress) (items : List I) (i : ℕ) (x : I) (v : V) (found found' : List V) → i < length items → x ≡ get_or items i x
       → Reaches I V Reads start items here i found → Reads here (x ∷ []) next (Ok (v ∷ [])) → found' ≡ found ++ v ∷ [] → Reaches I V Reads start items next (i + 1) found'
   reaches_next start here next items i x v found found' short is reach read more new r h =
       let whole : Reads here (drop i items) new (behind (v ∷ []) r) =
-      subst (λ l. Reads here l new (behind (v ∷ []) r)) (sym (next_item items i x short is)) (k.joins here next new (x ∷ []) (drop (i + 1) items) (v ∷ []) r read h) in
+      subst (λ l. Reads here l new (behind (v ∷ []) r)) (sym (drop-next items i x short is)) (k.joins here next new (x ∷ []) (drop (i + 1) items) (v ∷ []) r read h) in
       subst (Reads start items new) (sym (behind-behind found (v ∷ []) r) ∙ ap (λ l. behind l r) (sym more)) (reach new (behind (v ∷ []) r) whole)
 
   pub reaches_failure : (start here new : Progress) (items : List I) (i : ℕ) (x : I) (found : List V) (e : WireErr) → i < length items → x ≡ get_or items i x
       → Reaches I V Reads start items here i found → Reads here (x ∷ []) new (Err e) → Reads start items new (Err e)
   reaches_failure start here new items i x found e short is reach read =
-      reach new (Err e) (subst (λ l. Reads here l new (Err e)) (sym (next_item items i x short is)) (k.fails here new (x ∷ []) (drop (i + 1) items) e read))
+      reach new (Err e) (subst (λ l. Reads here l new (Err e)) (sym (drop-next items i x short is)) (k.fails here new (x ∷ []) (drop (i + 1) items) e read))
 
   pub reaches_break : (start here new : Progress) (items : List I) (i : ℕ) (x : I) (v : V) (found : List V)
       → Reaches I V Reads start items here i found → Reads here (x ∷ []) new (Ok (v ∷ [])) → Reads start items new (Err NoMemory)
