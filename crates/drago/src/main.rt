@@ -1,29 +1,31 @@
 //! The program: a reasoner for Distributed Description Logics that answers request lines with proved verdicts.
 //!
-//! `alone` has the top call, which reads the words. What it promises is `specs/Words.antt`, and `specs/Headline.antt` of
-//! `dd_server`.
+//! `words` has the words after the program's name, and `alone` the top call, which does what they ask for. What it promises
+//! is `specs/Words.antt`, and `specs/Headline.antt` of `dd_server`.
 #![tactic(auto)]
 
 mod alone;
+mod words;
 
 use crate::alone::{USAGE, drago_alone};
+use crate::words::words;
 use dd_lines::{StdSink, StdSource};
 use dd_server::Status;
+use std::io;
 use std::process::ExitCode;
-use std::{env, io};
 
-fn main(rt: HostRuntime) -> io::Result<ExitCode> {
-    let mut words = Vec::new(rt.alloc());
-    for word in env::args(&rt)?.skip(1) {
-        words.push(word)?;
-    }
+fn main(rt: HostRuntime) -> ExitCode {
     let mut source = StdSource::new(rt.stdin());
     let mut sink = StdSink::new(rt.stdout());
-    let status = drago_alone(rt.alloc(), words.as_slice(), &mut source, &mut sink);
+    let status = match words(&rt) {
+        Ok(words) => drago_alone(rt.alloc(), words.as_slice(), &mut source, &mut sink),
+        Err(status) => status,
+    };
     if let Status::Words = status {
-        io::Write::write_all(&mut rt.stderr(), USAGE)?;
+        // Where the line cannot be written, the status still tells.
+        let _ = io::Write::write_all(&mut rt.stderr(), USAGE);
     }
-    Ok(ExitCode::from(status.number()))
+    ExitCode::from(status.number())
 }
 
 #[cfg(test)]

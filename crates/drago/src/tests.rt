@@ -11,6 +11,7 @@ mod checks;
 mod limits;
 mod refusals;
 mod transcript;
+mod words;
 
 /// Three requests of 28, 67 and 48 bytes with their line feeds.
 const REQUESTS: &str = r#"{"op":"peers","names":["a"]}
