@@ -19,7 +19,7 @@ fn main(rt: HostRuntime) -> ExitCode {
     let mut sink = StdSink::new(rt.stdout());
     let status = match words(&rt) {
         Ok(words) => drago_alone(rt.alloc(), words.as_slice(), &mut source, &mut sink),
-        Err(status) => status,
+        Err(_) => Status::Memory,
     };
     if let Status::Words = status {
         // Where the line cannot be written, the status still tells.

@@ -1,31 +1,26 @@
 //! The words after the program's name.
 
-ghost use Rattle.std.specs.Prelude.{◌≡◌, ◌⊎◌, IfErr};
-ghost use Rattle.dd_server.specs.declared.status.Status.TheVariants.{Words, Memory};
-
-use dd_server::Status;
+use std::alloc::AllocError;
 use std::env::{Env, FillError};
 use std::{env, io};
 
-/// The words after the program's name, or with which status the program ends where they cannot be had: `Status::Words` where
-/// one of them is not UTF-8, and `Status::Memory` where there is no memory for them.
-pub fn words<R: Env + AllocGlobal>(rt: &R) -> Result<Vec<String>, Status>
-    ensures refused { IfErr result (λ status. (status ≡ Words) ⊎ (status ≡ Memory)) }
-{
-    match env::args(&(BehindTheName { rt }, rt.alloc())) {
-        Ok(words) => words.collect(rt.alloc()).map_err(|_| Status::Memory),
-        Err(e) if e.kind() == io::ErrorKind::OutOfMemory => Err(Status::Memory),
-        Err(_) => Err(Status::Words),
+/// The words after the program's name, and none where one of them is not UTF-8, since no command has such a word. It fails
+/// where there is no memory for them.
+pub fn words<R: Env + AllocGlobal>(rt: &R) -> Result<Vec<String>, AllocError> {
+    match env::args(&(WithoutName { rt }, rt.alloc())) {
+        Ok(words) => words.collect(rt.alloc()),
+        Err(e) if e.kind() == io::ErrorKind::OutOfMemory => Err(AllocError),
+        Err(_) => Ok(Vec::new(rt.alloc())),
     }
 }
 
-/// The arguments of a process but for the first, its name. The library reads all arguments as texts, and the name may be none.
+/// The arguments of a process without the first, its name. The library reads all arguments as texts, and the name may be none.
 #[derive(Drop)]
-struct BehindTheName<'a, R> {
+struct WithoutName<'a, R> {
     rt: &'a R,
 }
 
-impl<R: Env> Env for BehindTheName<'_, R> {
+impl<R: Env> Env for WithoutName<'_, R> {
     fn arg(&self, i: usize, buf: &mut [u8]) -> Result<usize, FillError> {
         match i.checked_add(1) {
             Some(behind) => self.rt.arg(behind, buf),

@@ -1,7 +1,7 @@
 //! The words of the program, from arguments in memory.
 
 use crate::words::words;
-use dd_server::Status;
+use std::alloc::AllocError;
 use std::env::{Env, FillError};
 
 /// The arguments of a process, the program's name first.
@@ -31,19 +31,14 @@ impl Env for Arguments {
     }
 }
 
-/// How many words these arguments have, or the status in place of them.
-fn counted(rt: &HostRuntime, texts: &'static [&'static [u8]]) -> Result<usize, Status> {
+/// How many words these arguments have.
+fn counted(rt: &HostRuntime, texts: &'static [&'static [u8]]) -> Result<usize, AllocError> {
     Ok(words(&(Arguments { texts }, rt.alloc()))?.len())
 }
 
 #[test]
 fn what_is_not_utf_8_is_no_word(rt: HostRuntime) {
-    assert!(rt; matches!(counted(&rt, &[b"drago", b"alone", b"\xc3\xa4"]), Ok(2)));
-    assert!(rt;
-        matches!(
-            counted(&rt, &[b"drago", b"alone", b"\xc3"]),
-            Err(Status::Words)
-        )
-    );
-    assert!(rt; matches!(counted(&rt, &[b"\xff", b"alone"]), Ok(1)));
+    assert!(rt; counted(&rt, &[b"drago", b"alone", b"\xc3\xa4"]) == Ok(2));
+    assert!(rt; counted(&rt, &[b"drago", b"alone", b"\xc3"]) == Ok(0));
+    assert!(rt; counted(&rt, &[b"\xff", b"alone"]) == Ok(1));
 }
