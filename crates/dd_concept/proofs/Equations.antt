@@ -1,58 +1,16 @@
--- The counts and the normal forms, form by form.
+-- The normal forms, form by form, and the depth of two parts.
 use Rattle.std.proofs.Common.{◌≡◌, ℕ, ◌+◌, max, ap}
 use Rattle.dd_concept.specs.declared.concept.Concept.{Concept}
 use Rattle.dd_concept.specs.declared.concept.Concept.TheVariants.{Top, Bottom, Name, Not, And, Or, HasSome, HasAll}
-use Rattle.dd_concept.specs.Counts.{node_count, node_count_at, depth_of, depth_at}
+use Rattle.dd_concept.specs.Counts.{depth_of, depth_at}
 use Rattle.dd_concept.specs.Normal.{normal_at, nnf_of, nnf_not_of}
 use Rattle.dd_concept.proofs.Folds.{fold-Top, fold-Bottom, fold-Name, fold-Not, fold-And, fold-Or, fold-HasSome, fold-HasAll}
-
-pub node_count-Top : node_count Top ≡ 1
-node_count-Top = fold-Top ℕ node_count_at
-
-pub node_count-Bottom : node_count Bottom ≡ 1
-node_count-Bottom = fold-Bottom ℕ node_count_at
-
-pub node_count-Name : (a : ℕ) → node_count (Name a) ≡ 1
-node_count-Name a = fold-Name ℕ node_count_at a
-
-pub node_count-Not : (c : Concept) → node_count (Not c) ≡ node_count c + 1
-node_count-Not c = fold-Not ℕ node_count_at c
-
-pub node_count-And : (c d : Concept) → node_count (And c d) ≡ node_count c + node_count d + 1
-node_count-And c d = fold-And ℕ node_count_at c d
-
-pub node_count-Or : (c d : Concept) → node_count (Or c d) ≡ node_count c + node_count d + 1
-node_count-Or c d = fold-Or ℕ node_count_at c d
-
-pub node_count-HasSome : (r : ℕ) (c : Concept) → node_count (HasSome r c) ≡ node_count c + 1
-node_count-HasSome r c = fold-HasSome ℕ node_count_at r c
-
-pub node_count-HasAll : (r : ℕ) (c : Concept) → node_count (HasAll r c) ≡ node_count c + 1
-node_count-HasAll r c = fold-HasAll ℕ node_count_at r c
-
-pub depth_of-Top : depth_of Top ≡ 1
-depth_of-Top = fold-Top ℕ depth_at
-
-pub depth_of-Bottom : depth_of Bottom ≡ 1
-depth_of-Bottom = fold-Bottom ℕ depth_at
-
-pub depth_of-Name : (a : ℕ) → depth_of (Name a) ≡ 1
-depth_of-Name a = fold-Name ℕ depth_at a
-
-pub depth_of-Not : (c : Concept) → depth_of (Not c) ≡ depth_of c + 1
-depth_of-Not c = fold-Not ℕ depth_at c
 
 pub depth_of-And : (c d : Concept) → depth_of (And c d) ≡ max (depth_of c) (depth_of d) + 1
 depth_of-And c d = fold-And ℕ depth_at c d
 
 pub depth_of-Or : (c d : Concept) → depth_of (Or c d) ≡ max (depth_of c) (depth_of d) + 1
 depth_of-Or c d = fold-Or ℕ depth_at c d
-
-pub depth_of-HasSome : (r : ℕ) (c : Concept) → depth_of (HasSome r c) ≡ depth_of c + 1
-depth_of-HasSome r c = fold-HasSome ℕ depth_at r c
-
-pub depth_of-HasAll : (r : ℕ) (c : Concept) → depth_of (HasAll r c) ≡ depth_of c + 1
-depth_of-HasAll r c = fold-HasAll ℕ depth_at r c
 
 pub nnf_of-Top : nnf_of Top ≡ Top
 nnf_of-Top = ap (λ p. p.0) (fold-Top (Concept × Concept) normal_at)

@@ -1,2 +1,16 @@
 pub mod Counts
+pub mod Sizes
 pub mod Normal
+pub mod Laws
+pub mod Forms
+pub mod Names
+pub mod Parts
+pub mod Same
+pub mod Conjunction
+pub mod Propagation
+pub mod Saturated
+pub mod Steps
+pub mod Successor
+pub mod Closed
+pub mod Reached
+pub mod AtNumbers

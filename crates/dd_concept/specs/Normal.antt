@@ -5,6 +5,7 @@ use Rattle.dd_concept.specs.declared.concept.Concept.TheOpen.{Concept-F}
 use Rattle.dd_concept.specs.declared.concept.Concept.TheFolds.{fold-Concept}
 use Rattle.dd_concept.specs.declared.concept.Concept.TheVariants.{Top, Bottom, Name, Not, And, Or, HasSome, HasAll}
 use Rattle.dd_concept.specs.Counts.{node_count, depth_of}
+use Rattle.dd_concept.specs.Sizes.{most_nodes, most_depth, most_normal_nodes, most_normal_depth}
 
 -- the normal forms of a concept and of its complement, given those of its parts
 abbrev pub normal_at : Concept-F (Concept × Concept) → Concept × Concept
@@ -48,6 +49,6 @@ stands = fold-Concept (Bool × Bool) stands_at
 abbrev pub IsNormal : Concept → Type 0
 IsNormal c = IsTrue ((stands c).1)
 
--- where the first has at most 1,000 nodes and depth at most 64, the second has at most 2,000 nodes and depth at most 65
+-- where the first is within the limits of requests, the second is within those of certificates
 abbrev pub IsSmallFor : Concept → Concept → Type 0
-IsSmallFor c d = node_count c ≤ 1000 → depth_of c ≤ 64 → (node_count d ≤ 2000) × (depth_of d ≤ 65)
+IsSmallFor c d = node_count c ≤ most_nodes → depth_of c ≤ most_depth → (node_count d ≤ most_normal_nodes) × (depth_of d ≤ most_normal_depth)

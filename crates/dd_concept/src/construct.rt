@@ -1,4 +1,4 @@
-ghost use Rattle.std.specs.Prelude.{◌≡◌, IfOk, Ok};
+ghost use Rattle.std.specs.Prelude.{◌≡◌, IfOk};
 
 use crate::NoMemory;
 use crate::concept::Concept;
@@ -46,38 +46,4 @@ fn both(alloc: Global, c: Concept, d: Concept) -> Result<(Boxed<Concept>, Boxed<
     ensures { IfOk result (λ two. (two.0 ≡ c) × (two.1 ≡ d)) }
 {
     Ok((Boxed::new(alloc, c)?, Boxed::new(alloc, d)?))
-}
-
-/// The conjunction with a concept that was made, if it was.
-pub(crate) fn conjunction_if_made(
-    alloc: Global,
-    c: Concept,
-    d: Result<Concept, NoMemory>,
-) -> Result<Concept, NoMemory>
-    ensures { IfOk result (λ made. (e : Concept) × (d ≡ Ok e) × (made ≡ Concept.And c e)) }
-{
-    match d {
-        Ok(d) => conjunction(alloc, c, d),
-        Err(e) => {
-            drop(c);
-            Err(e)
-        }
-    }
-}
-
-/// The disjunction with a concept that was made, if it was.
-pub(crate) fn disjunction_if_made(
-    alloc: Global,
-    c: Concept,
-    d: Result<Concept, NoMemory>,
-) -> Result<Concept, NoMemory>
-    ensures { IfOk result (λ made. (e : Concept) × (d ≡ Ok e) × (made ≡ Concept.Or c e)) }
-{
-    match d {
-        Ok(d) => disjunction(alloc, c, d),
-        Err(e) => {
-            drop(c);
-            Err(e)
-        }
-    }
 }

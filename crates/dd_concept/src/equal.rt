@@ -2,9 +2,7 @@ ghost use Rattle.std.specs.Prelude.{◌≡◌, ◌↔◌, IfOk, IsTrue};
 
 use crate::NoMemory;
 use crate::concept::{Axiom, Concept};
-use crate::construct::{
-    conjunction_if_made, disjunction_if_made, existential, negation, universal,
-};
+use crate::construct::{conjunction, disjunction, existential, negation, universal};
 use std::alloc::Global;
 
 /// Whether two concepts are the same tree.
@@ -24,6 +22,28 @@ pub fn same(a: &Concept, b: &Concept) -> bool
     }
 }
 
+/// Whether two axioms have the same two sides.
+pub fn same_axiom(a: &Axiom, b: &Axiom) -> bool
+    ensures { IsTrue result ↔ (a.now ≡ b.now) }
+{
+    same(&a.left, &b.left) && same(&a.right, &b.right)
+}
+
+/// Whether two lists have the same axioms in the same order.
+pub fn same_axioms(a: &[Axiom], b: &[Axiom]) -> bool
+    ensures { IsTrue result ↔ (a.now ≡ b.now) }
+{
+    if a.len() != b.len() {
+        return false;
+    }
+    for k in 0..a.len() {
+        if !same_axiom(&a[k], &b[k]) {
+            return false;
+        }
+    }
+    true
+}
+
 /// The same tree once more.
 pub fn copy(alloc: Global, c: &Concept) -> Result<Concept, NoMemory>
     ensures { IfOk result (λ d. d ≡ c.now) }
@@ -33,16 +53,8 @@ pub fn copy(alloc: Global, c: &Concept) -> Result<Concept, NoMemory>
         Concept::Bottom => Ok(Concept::Bottom),
         Concept::Name(n) => Ok(Concept::Name(*n)),
         Concept::Not(d) => negation(alloc, copy(alloc, d.get())?),
-        Concept::And(d, e) => conjunction_if_made(
-            alloc,
-            copy(alloc, d.get())?,
-            copy(alloc, e.get()),
-        ),
-        Concept::Or(d, e) => disjunction_if_made(
-            alloc,
-            copy(alloc, d.get())?,
-            copy(alloc, e.get()),
-        ),
+        Concept::And(d, e) => conjunction(alloc, copy(alloc, d.get())?, copy(alloc, e.get())?),
+        Concept::Or(d, e) => disjunction(alloc, copy(alloc, d.get())?, copy(alloc, e.get())?),
         Concept::HasSome(r, d) => existential(alloc, *r, copy(alloc, d.get())?),
         Concept::HasAll(r, d) => universal(alloc, *r, copy(alloc, d.get())?),
     }

@@ -1,8 +1,12 @@
-ghost use Rattle.std.specs.Prelude.{◌≡◌, ◌∷◌, ◌++◌, [], IfOk, OnErr, OnOk, take};
+ghost use Rattle.std.specs.Prelude.{◌≡◌, ◌∷◌, ◌++◌, ◌^◌, ◌<◌, [], IfOk, IsTrue, OnErr, OnOk, OnSome, ◌↔◌, length, slice_get, take};
+ghost use Rattle.std.specs.Option.{option_copied};
+ghost use Rattle.std.specs.Slice.Iter.{iter_rest};
+ghost use Rattle.std.specs.Iterator.Adapters.{IterYieldsInOrder, IterYieldsInReverse};
 
 use crate::NoMemory;
 use std::alloc::Global;
 use std::marker::Model;
+use std::slice::Iter;
 
 /// A `Vec` that contracts see as the list of its elements, so that equal lists are equal values.
 #[derive(Drop)]
@@ -51,6 +55,38 @@ impl<T> Items<T> {
         ensures { result.now ≡ self.now }
     {
         self.list.as_slice()
+    }
+
+    /// How many items there are.
+    pub fn len(&self) -> usize
+        ensures { result ≡ length self.now }
+    {
+        self.list.len()
+    }
+
+    /// Whether there is no item.
+    pub fn is_empty(&self) -> bool
+        ensures { IsTrue result ↔ (self.now ≡ []) }
+    {
+        self.list.is_empty()
+    }
+
+    /// The item at a position, from 0, if it is there.
+    pub fn get(&self, at: usize) -> Option<&T>
+        ensures value { option_copied result ≡ slice_get self.now at }
+        ensures within { OnSome result (at < length self.now) }
+    {
+        self.list.get(at)
+    }
+
+    /// The items one after another, in order or from the back.
+    pub fn iter(&self) -> Iter<'_, T>
+        ensures rest { iter_rest result ≡ self.now }
+        ensures bound { length (iter_rest result) < 2 ^ 64 }
+        ensures runs { IterYieldsInOrder T }
+        ensures runs_back { IterYieldsInReverse T }
+    {
+        self.as_slice().iter()
     }
 }
 

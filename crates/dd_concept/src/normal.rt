@@ -3,9 +3,7 @@ ghost use Rattle.dd_concept.specs.Normal.{IsNormal, IsSmallFor, nnf_not_of, nnf_
 
 use crate::NoMemory;
 use crate::concept::Concept;
-use crate::construct::{
-    conjunction_if_made, disjunction_if_made, existential, negation, universal,
-};
+use crate::construct::{conjunction, disjunction, existential, negation, universal};
 use std::alloc::Global;
 
 /// The negation normal form: the same concept, with Not pushed down to the names.
@@ -36,10 +34,10 @@ fn positive(alloc: Global, c: &Concept) -> Result<Concept, NoMemory>
         Concept::Name(n) => Ok(Concept::Name(*n)),
         Concept::Not(d) => negative(alloc, d.get()),
         Concept::And(d, e) => {
-            conjunction_if_made(alloc, positive(alloc, d.get())?, positive(alloc, e.get()))
+            conjunction(alloc, positive(alloc, d.get())?, positive(alloc, e.get())?)
         }
         Concept::Or(d, e) => {
-            disjunction_if_made(alloc, positive(alloc, d.get())?, positive(alloc, e.get()))
+            disjunction(alloc, positive(alloc, d.get())?, positive(alloc, e.get())?)
         }
         Concept::HasSome(r, d) => existential(alloc, *r, positive(alloc, d.get())?),
         Concept::HasAll(r, d) => universal(alloc, *r, positive(alloc, d.get())?),
@@ -56,10 +54,10 @@ fn negative(alloc: Global, c: &Concept) -> Result<Concept, NoMemory>
         Concept::Name(n) => negation(alloc, Concept::Name(*n)),
         Concept::Not(d) => positive(alloc, d.get()),
         Concept::And(d, e) => {
-            disjunction_if_made(alloc, negative(alloc, d.get())?, negative(alloc, e.get()))
+            disjunction(alloc, negative(alloc, d.get())?, negative(alloc, e.get())?)
         }
         Concept::Or(d, e) => {
-            conjunction_if_made(alloc, negative(alloc, d.get())?, negative(alloc, e.get()))
+            conjunction(alloc, negative(alloc, d.get())?, negative(alloc, e.get())?)
         }
         Concept::HasSome(r, d) => universal(alloc, *r, negative(alloc, d.get())?),
         Concept::HasAll(r, d) => existential(alloc, *r, negative(alloc, d.get())?),

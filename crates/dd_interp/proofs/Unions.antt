@@ -89,7 +89,7 @@ module _ (r : ℕ) (c : ℕ → Bool) where
   some_along-append x roles more = list_any-append (λ t. (nat_eq t.0 r && nat_eq t.1 x) && c t.2) roles more
 
 -- two tests that agree below the size
-some_along-within : (r n x : ℕ) (c d : ℕ → Bool) → ((y : ℕ) → y < n → c y ≡ d y) → (roles : List (ℕ × ℕ × ℕ)) → All (λ t. t.2 < n) roles
+pub some_along-within : (r n x : ℕ) (c d : ℕ → Bool) → ((y : ℕ) → y < n → c y ≡ d y) → (roles : List (ℕ × ℕ × ℕ)) → All (λ t. t.2 < n) roles
     → some_along roles r c x ≡ some_along roles r d x
 some_along-within r n x c d h [] k = refl
 some_along-within r n x c d h (t ∷ ts) k =

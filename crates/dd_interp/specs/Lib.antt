@@ -2,3 +2,10 @@ pub mod Meaning
 pub mod NormalForms
 pub mod Satisfies
 pub mod Union
+pub mod Labels
+pub mod Propagations
+pub mod Lean
+pub mod Open
+pub mod Places
+pub mod Seen
+pub mod SeenLists

@@ -1,35 +1,16 @@
 -- What holds of a version that no test refuses.
-use Rattle.std.proofs.Common.{◌≡◌, ◌≢◌, ◌∙◌, ℕ, zero, suc, ◌<◌, ◌≤◌, ◌++◌, ◌∷◌, [], List, Bool, true, false, cond, nat_eq, nat_le, nat_lt, Option, None, Some, Result, OnOk, ap, subst, sym, inl, inr, refl, arith, length}
+use Rattle.std.proofs.Common.{◌≡◌, ◌≢◌, ◌∙◌, ℕ, zero, suc, ◌<◌, ◌≤◌, ◌++◌, ◌∷◌, [], List, Bool, false, cond, nat_eq, nat_le, nat_lt, Option, None, Some, Result, OnOk, ap, subst, sym, inl, inr, refl, arith, length}
 use Rattle.std.specs.Option.{option_map}
-use Rattle.std.specs.List.{All, position, position_or_len, filter}
+use Rattle.std.specs.List.{All, position, filter}
 use Rattle.std.proofs.lemmas.Bool.{cases_eq, cases_lt, ltb-false, leb-false, eqb-false, ne_eqb}
 use Rattle.std.proofs.lemmas.List.Elements.{All-nil, All-cons, All-head, All-tail, All-weaker}
-use Rattle.std.proofs.lemmas.List.Sums.{fails_before_first}
-use Rattle.dd_peer.specs.declared.check.TheConstants.{MAX_AXIOMS, MAX_RULES}
+use Rattle.dd_concept.proofs.Firsts.{first_none, map_none, cond_none, position_none}
 use Rattle.dd_peer.specs.declared.check.PeerErr.{PeerErr}
 use Rattle.dd_peer.specs.declared.check.PeerErr.TheVariants.{SamePeer, UnknownPeer, TooManyAxioms, TooManyRules}
 use Rattle.dd_peer.specs.declared.version.PeerVersion.{PeerVersion}
 use Rattle.dd_peer.specs.declared.version.Rule.{Rule}
 use Rattle.dd_peer.specs.Rules.{rules_of, rules_from}
-use Rattle.dd_peer.specs.Refusals.{first_of, crowd_of, first_crowd, refusal_of, refused_by, IsAccepted}
-
-first_none : {A : Type 0} (a b : Option A) → first_of a b ≡ None → (a ≡ None) × (b ≡ None)
-first_none None b e = (refl, e)
-first_none (Some x) b e = cc
-
-map_none : {A B : Type 0} (f : A → B) (a : Option A) → option_map f a ≡ None → a ≡ None
-map_none f None e = refl
-map_none f (Some x) e = cc
-
-cond_none : {A : Type 0} (b : Bool) (x : A) (o : Option A) → cond b (Some x) o ≡ None → (b ≡ false) × (o ≡ None)
-cond_none true x o e = cc
-cond_none false x o e = (refl, e)
-
-position_none : {A : Type 0} (p : A → Bool) (xs : List A) → position p xs ≡ None → All (λ x. p x ≡ false) xs
-position_none p xs e k d lt =
-    let le : length xs ≤ position_or_len p xs =
-    ltb-false (position_or_len p xs) (length xs) (cond_none (nat_lt (position_or_len p xs) (length xs)) (position_or_len p xs) None e).0 in
-    fails_before_first p xs k d (omega (arith, le, lt))
+use Rattle.dd_peer.specs.Refusals.{most_axioms, most_rules, crowd_of, first_crowd, refusal_of, refused_by, IsAccepted}
 
 module _ {A : Type 0} (P : A → Type 0) where
   All-left : (xs ys : List A) → All P (xs ++ ys) → All P xs
@@ -46,7 +27,7 @@ filter_none p (x ∷ xs) h =
     ap (λ b. cond b (x ∷ filter p xs) (filter p xs)) (All-head (λ y. p y ≡ false) x xs h) ∙ filter_none p xs (All-tail (λ y. p y ≡ false) x xs h)
 
 -- no rules come from a peer beyond all that rules come from
-none_beyond : (rules : List Rule) (peers from : ℕ) → All (λ r. r.from < peers) rules → peers ≤ from → length (rules_from rules from) ≤ MAX_RULES
+none_beyond : (rules : List Rule) (peers from : ℕ) → All (λ r. r.from < peers) rules → peers ≤ from → length (rules_from rules from) ≤ most_rules
 none_beyond rules peers from h le =
     let none : rules_from rules from ≡ [] = filter_none (λ r. nat_eq r.from from) rules
     (All-weaker (λ r. r.from < peers) (λ r. nat_eq r.from from ≡ false) (λ r lt. ne_eqb r.from from (λ e. absurd (omega (arith, e, lt, le)))) rules h) in
@@ -54,11 +35,11 @@ none_beyond rules peers from h le =
 
 module _ (v : PeerVersion) where
   crowd_none : (from : ℕ) → crowd_of v from ≡ None
-      → (length (rules_from v.into from) ≤ MAX_RULES) × (length (rules_from v.onto from) ≤ MAX_RULES)
+      → (length (rules_from v.into from) ≤ most_rules) × (length (rules_from v.onto from) ≤ most_rules)
   crowd_none from e =
-      let into = cond_none (nat_lt MAX_RULES (length (rules_from v.into from))) (length (rules_from v.into from)) _ e in
-      let onto = cond_none (nat_lt MAX_RULES (length (rules_from v.onto from))) (length (rules_from v.onto from)) None into.1 in
-      (ltb-false MAX_RULES (length (rules_from v.into from)) into.0, ltb-false MAX_RULES (length (rules_from v.onto from)) onto.0)
+      let into = cond_none (nat_lt most_rules (length (rules_from v.into from))) (length (rules_from v.into from)) _ e in
+      let onto = cond_none (nat_lt most_rules (length (rules_from v.onto from))) (length (rules_from v.onto from)) None into.1 in
+      (ltb-false most_rules (length (rules_from v.into from)) into.0, ltb-false most_rules (length (rules_from v.onto from)) onto.0)
 
   crowds_none : (n from : ℕ) → first_crowd v n ≡ None → from < n → crowd_of v from ≡ None
   crowds_none zero from e lt = absurd (omega arith)
@@ -73,7 +54,7 @@ module _ (v : PeerVersion) where
   accepted_at_none peers own e =
       let first = first_none (option_map (λ k. SamePeer k) (position (λ r. nat_eq r.from own) (rules_of v))) _ e in
       let second = first_none (option_map (λ k. UnknownPeer k) (position (λ r. nat_le peers r.from) (rules_of v))) _ first.1 in
-      let third = first_none (cond (nat_lt MAX_AXIOMS (length v.axioms)) (Some (TooManyAxioms (length v.axioms))) None) _ second.1 in
+      let third = first_none (cond (nat_lt most_axioms (length v.axioms)) (Some (TooManyAxioms (length v.axioms))) None) _ second.1 in
       let crowds = map_none (λ p. TooManyRules p.0 p.1) (first_crowd v peers) third.1 in
       let declared : All (λ r. r.from < peers) (rules_of v) =
       All-weaker (λ r. nat_le peers r.from ≡ false) (λ r. r.from < peers) (λ r h. leb-false peers r.from h) (rules_of v)
@@ -82,7 +63,7 @@ module _ (v : PeerVersion) where
         others = All-weaker (λ r. nat_eq r.from own ≡ false) (λ r. r.from ≢ own) (λ r h. eqb-false r.from own h) (rules_of v)
             (position_none (λ r. nat_eq r.from own) (rules_of v) (map_none (λ k. SamePeer k) (position (λ r. nat_eq r.from own) (rules_of v)) first.0));
         declared = declared;
-        axioms = ltb-false MAX_AXIOMS (length v.axioms) (cond_none (nat_lt MAX_AXIOMS (length v.axioms)) (TooManyAxioms (length v.axioms)) None third.0).0;
+        axioms = ltb-false most_axioms (length v.axioms) (cond_none (nat_lt most_axioms (length v.axioms)) (TooManyAxioms (length v.axioms)) None third.0).0;
         into = λ from. elim (cases_lt from peers) [
           | inl lt ↦ (crowd_none from (crowds_none peers from crowds lt)).0
           | inr le ↦ none_beyond v.into peers from (All-left (λ r. r.from < peers) v.into v.onto declared) le

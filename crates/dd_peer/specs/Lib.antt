@@ -1,2 +1,4 @@
-pub mod Refusals
 pub mod Rules
+pub mod Versions
+pub mod Question
+pub mod Refusals

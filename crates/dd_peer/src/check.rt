@@ -1,6 +1,7 @@
-ghost use Rattle.std.specs.Prelude.{◌≡◌, ◌+◌, ◌^◌, ◌<◌, ◌==◌, ◌++◌, OnOk, length, position, nat_le};
+ghost use Rattle.std.specs.Prelude.{◌≡◌, ◌==◌, ◌++◌, OnOk, position, nat_le};
 ghost use Rattle.dd_peer.specs.Refusals.{IsAccepted, crowd_of, first_crowd, refusal_of, refused_by};
 ghost use Rattle.dd_peer.specs.Rules.{rules_of};
+ghost use Rattle.dd_peer.specs.Versions.{IsNumbered};
 
 use crate::version::PeerVersion;
 use thiserror::Error;
@@ -33,8 +34,7 @@ impl PeerVersion {
     /// Whether this may be a version of the peer `own` where `peers` peers are declared: the first error in the order of
     /// `PeerErr` where it may not.
     pub fn check(&self, peers: u32, own: u32) -> Result<(), PeerErr>
-        requires rules { length self.now.into + length self.now.onto < 2 ^ 32 }
-        requires axioms { length self.now.axioms < 2 ^ 32 }
+        requires { IsNumbered self.now }
         ensures first { result ≡ refused_by (refusal_of self.now peers own) }
         ensures accepted { OnOk result (IsAccepted self.now peers own) }
     {
@@ -73,7 +73,7 @@ fn first_beyond(v: &PeerVersion, peers: u32) -> Option<usize>
 
 // The least peer below `peers` with too many rules, and their number.
 fn crowded(v: &PeerVersion, peers: u32) -> Option<(u32, u32)>
-    requires { length v.now.into + length v.now.onto < 2 ^ 32 }
+    requires { IsNumbered v.now }
     ensures { result ≡ first_crowd v.now peers }
 {
     for from in 0..peers {
@@ -85,7 +85,7 @@ fn crowded(v: &PeerVersion, peers: u32) -> Option<(u32, u32)>
 }
 
 fn crowd(v: &PeerVersion, from: u32) -> Option<u32>
-    requires { length v.now.into + length v.now.onto < 2 ^ 32 }
+    requires { IsNumbered v.now }
     ensures { result ≡ crowd_of v.now from }
 {
     let into = v.into_count(from);

@@ -1,9 +1,9 @@
-ghost use Rattle.std.specs.Prelude.{◌≡◌, ◌+◌, ◌^◌, ◌<◌, length, slice_get};
+ghost use Rattle.std.specs.Prelude.{◌≡◌, ◌^◌, ◌<◌, length, slice_get};
 ghost use Rattle.std.specs.Option.{option_copied};
 ghost use Rattle.dd_peer.specs.Rules.{rules_from};
+ghost use Rattle.dd_peer.specs.Versions.{IsNumbered};
 
-use crate::shared::Shared;
-use dd_concept::{Axiom, Concept, Items};
+use dd_concept::{Axiom, Concept, Items, Shared};
 
 /// A bridge rule, seen from the peer that keeps it: `from` is the other peer, and `source` is a concept of that one.
 #[derive(Drop)]
@@ -58,7 +58,7 @@ impl PeerVersion {
 
     /// How many into rules come from this peer.
     pub fn into_count(&self, from: u32) -> u32
-        requires { length self.now.into < 2 ^ 32 }
+        requires { IsNumbered self.now }
         ensures { result ≡ length (rules_from self.now.into from) }
     {
         count_from(self.into.as_slice(), from)
@@ -66,7 +66,7 @@ impl PeerVersion {
 
     /// How many onto rules come from this peer.
     pub fn onto_count(&self, from: u32) -> u32
-        requires { length self.now.onto < 2 ^ 32 }
+        requires { IsNumbered self.now }
         ensures { result ≡ length (rules_from self.now.onto from) }
     {
         count_from(self.onto.as_slice(), from)

@@ -2,13 +2,13 @@
 use Rattle.std.proofs.Common.{◌≡◌, ◌∙◌, ℕ, ◌+◌, ◌<◌, Bool, true, false, cond, get_or, List, Option, None, Some, Result, Err, IsOk, ◌↔◌, ap, refl, subst, sym, inl, inr, arith}
 use Rattle.std.specs.Bool.{Decides}
 use Rattle.std.proofs.lemmas.Bool.{not-false, false_from_ne_true, not-true, cases_order, true_from_ne_false}
-use Rattle.std.specs.Option.{option_map}
+use Rattle.std.specs.Option.{option_map, option_or}
 use Rattle.std.specs.List.{All, slice_get}
 use Rattle.std.proofs.lemmas.Bool.Decides.{not_from_Decides}
 use Rattle.std.proofs.lemmas.Option.{cond_some, same_Some, get_or_from_slice_get, slice_get_within}
 use Rattle.dd_concept.specs.declared.concept.Axiom.{Axiom}
 use Rattle.dd_interp.specs.declared.interp.Interp.{Interp}
-use Rattle.dd_peer.specs.Refusals.{first_of}
+use Rattle.dd_concept.proofs.Firsts.{first_none, map_none, cond_none}
 use Rattle.dd_peer.specs.declared.version.Pinned.{Pinned}
 use Rattle.dd_peer.specs.declared.version.PeerVersion.{PeerVersion}
 use Rattle.dd_peer.specs.declared.version.Query.{Query}
@@ -20,10 +20,10 @@ use Rattle.dd_world.specs.Elements.{size_at, holds_at}
 use Rattle.dd_world.specs.World.{IsWorld, SatisfiesAt, SatisfiesInto, SatisfiesOnto, SatisfiesWorld, IsCounterexample, IsCounter}
 use Rattle.dd_world.specs.Tests.{is_world, passes, is_under, satisfies_axiom, satisfies_into, satisfies_onto}
 use Rattle.dd_world.specs.Faults.{first_failing, fault_of, judged_by, EachHolds, IsFirstFailing, IsFirstFault}
-use Rattle.dd_world.proofs.Tables.{not_passing, first_none, cond_none, cond_else_none, first_at_some, first_after_none, first_some, map_some, cond_else_some}
+use Rattle.dd_world.proofs.Tables.{not_passing, cond_else_none, first_at_some, first_after_none, first_some, map_some, cond_else_some}
 use Rattle.dd_world.proofs.Below.{failing_below}
 use Rattle.dd_world.proofs.Decided.{decides_world, decides_under, decides_axiom, decides_into, decides_onto, size_is, holds_is, local_of}
-use Rattle.dd_world.proofs.Firsts.{IsFirst, map_none, first_failing_none, none_failing, first_failing_some}
+use Rattle.dd_world.proofs.Firsts.{IsFirst, first_failing_none, none_failing, first_failing_some}
 
 at_item : {A : Type 0} (P : A → Type 0) (xs : List A) (k : ℕ) (a : A) → All P xs → slice_get xs k ≡ Some a → P a
 at_item P xs k a h s = subst P (get_or_from_slice_get xs k a a s) (h k a (slice_get_within xs k a s))
@@ -92,7 +92,7 @@ module _ (p : Pinned) where
 
 -- an element that counters the query
 Countering : Query → World → Type 0
-Countering q w = (i : Interp) × (x : ℕ) × (slice_get w.locals q.peer ≡ Some i) × IsCounterexample i q x
+Countering q w = (x : ℕ) × IsCounterexample w q x
 
 countering : (q : Query) (w : World) → is_under w q.peer q.left q.right ≡ false → Countering q w
 unfolding Countering
@@ -100,26 +100,12 @@ countering q w e =
     let fails = failing_below (passes w q.peer q.left q.right) (size_at w q.peer) e in
     let x : ℕ = fails.0 in
     let sides = not_passing (holds_at w q.peer x q.left) (holds_at w q.peer x q.right) fails.2 in
-    let local = local_of w q.peer x fails.1 in (
-      local.0,
-      x,
-      local.1,
-      record {
-        within = subst (λ n. x < n) (size_is w q.peer local.0 local.1) fails.1;
-        has_left = sym (holds_is w q.peer local.0 local.1 x q.left) ∙ sides.0;
-        lacks_right = λ h. cc (holds_is w q.peer local.0 local.1 x q.right, sides.1, h);
-      },
-    )
+    (x, record { within = fails.1; has_left = sides.0; lacks_right = λ h. cc (sides.1, h) })
 
 under_not : (q : Query) (w : World) → Countering q w → is_under w q.peer q.left q.right ≡ false
 unfolding Countering
-under_not q w c =
-    let i : Interp = c.0 in
-    let x : ℕ = c.1 in
-    false_from_ne_true (is_under w q.peer q.left q.right) (λ e. c.3.lacks_right
-    (sym (holds_is w q.peer i c.2 x q.right)
-    ∙ (decides_under w q.peer q.left q.right).0 e x (subst (λ n. x < n) (sym (size_is w q.peer i c.2)) c.3.within)
-    (holds_is w q.peer i c.2 x q.left ∙ c.3.has_left)))
+under_not q w c = false_from_ne_true (is_under w q.peer q.left q.right)
+    (λ e. c.1.lacks_right ((decides_under w q.peer q.left q.right).0 e c.0 c.1.within c.1.has_left))
 
 module _ (p : Pinned) (w : World) where
   axioms_hold : first_failing (λ v. v.axioms) (satisfies_axiom w) 0 p.peers ≡ None → EachHolds Axiom (λ v. v.axioms) (SatisfiesAt w) p
@@ -159,7 +145,7 @@ module _ (p : Pinned) (q : Query) (w : World) where
   query_part : Option WorldFault
   query_part = cond (is_under w q.peer q.left q.right) (Some fault.NotCounter) None
 
-  parts_of : fault_of p q w ≡ first_of shape_part (first_of axiom_part (first_of into_part (first_of onto_part query_part)))
+  parts_of : fault_of p q w ≡ option_or shape_part (option_or axiom_part (option_or into_part (option_or onto_part query_part)))
   unfolding shape_part axiom_part into_part onto_part query_part axiom_fault into_fault onto_fault
   parts_of = refl
 
@@ -178,14 +164,14 @@ module _ (p : Pinned) (q : Query) (w : World) where
   counter_at_none : fault_of p q w ≡ None → IsCounter p q w
   unfolding query_part Countering
   counter_at_none e =
-      let shape = first_none shape_part (first_of axiom_part (first_of into_part (first_of onto_part query_part))) (sym parts_of ∙ e) in
-      let axioms = first_none axiom_part (first_of into_part (first_of onto_part query_part)) shape.1 in
-      let into = first_none into_part (first_of onto_part query_part) axioms.1 in
+      let shape = first_none shape_part (option_or axiom_part (option_or into_part (option_or onto_part query_part))) (sym parts_of ∙ e) in
+      let axioms = first_none axiom_part (option_or into_part (option_or onto_part query_part)) shape.1 in
+      let into = first_none into_part (option_or onto_part query_part) axioms.1 in
       let onto = first_none onto_part query_part into.1 in
       record {
         world = world_holds shape.0;
         satisfies = satisfied axioms.0 into.0 onto.0;
-        element = countering q w (cond_none (is_under w q.peer q.left q.right) fault.NotCounter onto.1);
+        element = countering q w (cond_none (is_under w q.peer q.left q.right) fault.NotCounter None onto.1).0;
       }
 
   shape_none : IsWorld p w → shape_part ≡ None

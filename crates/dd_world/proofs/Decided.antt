@@ -66,12 +66,7 @@ module _ (w : World) (j : ℕ) where
   ]
 
   pub decides_axiom : (a : Axiom) → Decides (satisfies_axiom w j a) (SatisfiesAt w j a)
-  decides_axiom a = Decides-like (satisfies_axiom w j a)
-      (λ h i e x lt l. sym (holds_is i e x a.right) ∙ h x (subst (λ n. x < n) (sym (size_is i e)) lt) (holds_is i e x a.left ∙ l))
-      (λ h x lt l. let local = local_of x lt in
-      holds_is local.0 local.1 x a.right
-      ∙ h local.0 local.1 x (subst (λ n. x < n) (size_is local.0 local.1) lt) (sym (holds_is local.0 local.1 x a.left) ∙ l))
-      (decides_under w j a.left a.right)
+  decides_axiom a = decides_under w j a.left a.right
 
   module _ (r : Rule) where
     joined : (l : ℕ × ℕ × ℕ × ℕ) → Decides (joins j r l) ((l.0 ≡ r.from) × (l.1 ≡ j))

@@ -1,26 +1,15 @@
 -- The first item of a peer that fails a test.
 use Rattle.std.proofs.Common.{◌≡◌, ◌∙◌, ℕ, zero, suc, ◌+◌, ◌<◌, ◌≤◌, Bool, true, false, not, cond, nat_lt, List, [], ◌∷◌, length, get_or, Option, None, Some, ap, refl, drop, subst, sym, arith, drop-cons}
-use Rattle.std.specs.Option.{option_map}
+use Rattle.std.specs.Option.{option_map, option_or}
 use Rattle.std.specs.List.{All, position, position_or_len, slice_get}
 use Rattle.std.proofs.lemmas.Bool.{ltb-false, ltb-true, le-ltb, not-false, not_from_true}
 use Rattle.std.proofs.lemmas.List.Sums.{fails_before_first, passes_at_first, position_or_len_is}
 use Rattle.std.proofs.lemmas.Option.{cond_some, same_Some, some_pair_parts, slice_get-get_or, get_or_from_slice_get}
-use Rattle.dd_peer.specs.Refusals.{first_of}
+use Rattle.dd_concept.proofs.Firsts.{first_none, map_none, position_none}
 use Rattle.dd_peer.specs.declared.version.PeerVersion.{PeerVersion}
 use Rattle.dd_world.specs.Faults.{first_failing}
-use Rattle.dd_world.proofs.Tables.{first_none, cond_none}
-
-pub map_none : {A B : Type 0} (f : A → B) (a : Option A) → option_map f a ≡ None → a ≡ None
-map_none f None e = refl
-map_none f (Some x) e = cc
 
 module _ (A : Type 0) (p : A → Bool) where
-  pub position_none : (xs : List A) → position p xs ≡ None → All (λ x. p x ≡ false) xs
-  position_none xs e k d lt =
-      let le : length xs ≤ position_or_len p xs =
-      ltb-false (position_or_len p xs) (length xs) (cond_none (nat_lt (position_or_len p xs) (length xs)) (position_or_len p xs) e) in
-      fails_before_first p xs k d (omega (arith, le, lt))
-
   pub none_passes : (xs : List A) → All (λ x. p x ≡ false) xs → position p xs ≡ None
   none_passes [] h = refl
   none_passes (x ∷ xs) h =
@@ -70,7 +59,7 @@ module _ (A : Type 0) (list : PeerVersion → List A) (test : ℕ → A → Bool
 
   head_passes : (j : ℕ) (v : PeerVersion) → place_in j v ≡ None → All (λ a. test j a ≡ true) (list v)
   unfolding place_in
-  head_passes j v e k d lt = not-false (test j (get_or (list v) k d)) (position_none A (λ a. not (test j a)) (list v) e k d lt)
+  head_passes j v e k d lt = not-false (test j (get_or (list v) k d)) (position_none (λ a. not (test j a)) (list v) e k d lt)
 
   renumber : (i j : ℕ) (v : PeerVersion) → i ≡ j → All (λ a. test i a ≡ true) (list v) → All (λ a. test j a ≡ true) (list v)
   renumber i j v e h = subst (λ n. All (λ a. test n a ≡ true) (list v)) e h
@@ -92,7 +81,7 @@ module _ (A : Type 0) (list : PeerVersion → List A) (test : ℕ → A → Bool
   none_failing j (u ∷ us) h =
       let none : place_in j u ≡ None = none_passes A (λ a. not (test j a)) (list u)
       (λ k d lt. not_from_true (test j (get_or (list u) k d)) (renumber (j + 0) j u (omega arith) (h 0 u refl) k d lt)) in
-      ap (λ o. first_of (option_map (λ n. (j, n)) o) (first_failing list test (j + 1) us)) none
+      ap (λ o. option_or (option_map (λ n. (j, n)) o) (first_failing list test (j + 1) us)) none
       ∙ none_failing (j + 1) us (λ k v s. renumber (j + suc k) (j + 1 + k) v (omega arith) (h (suc k) v s))
 
   earlier : (j : ℕ) (u : PeerVersion) (us : List PeerVersion) {m n : ℕ} → place_in j u ≡ None → (h : IsFirst A list test (j + 1) us m n)
@@ -102,7 +91,7 @@ module _ (A : Type 0) (list : PeerVersion → List A) (test : ℕ → A → Bool
   earlier j u us f h (suc i) v lt s = renumber (j + 1 + i) (j + suc i) v (omega arith) (h.before i v (omega arith) s)
 
   first_failing_found : (j : ℕ) (u : PeerVersion) (us : List PeerVersion) (m n : ℕ) (o : Option ℕ) → place_in j u ≡ o
-      → first_of (option_map (λ k. (j, k)) o) (first_failing list test (j + 1) us) ≡ Some (m, n)
+      → option_or (option_map (λ k. (j, k)) o) (first_failing list test (j + 1) us) ≡ Some (m, n)
       → (first_failing list test (j + 1) us ≡ Some (m, n) → IsFirst A list test (j + 1) us m n) → IsFirst A list test j (u ∷ us) m n
   unfolding place_in
   first_failing_found j u us m n (Some k) f e rest =
@@ -137,5 +126,5 @@ module _ (A : Type 0) (list : PeerVersion → List A) (test : ℕ → A → Bool
       let whole : drop j vs ≡ v ∷ drop (suc j) vs = drop-cons vs j v lt ∙ ap (λ u. u ∷ drop (suc j) vs) (sym e) in
       let next : suc j ≡ j + 1 = omega arith in
       ap (first_failing list test j) whole
-      ∙ ap (λ o. first_of (option_map (λ n. (j, n)) o) (first_failing list test (j + 1) (drop (suc j) vs))) (sym none)
+      ∙ ap (λ o. option_or (option_map (λ n. (j, n)) o) (first_failing list test (j + 1) (drop (suc j) vs))) (sym none)
       ∙ ap (λ n. first_failing list test (j + 1) (drop n vs)) next

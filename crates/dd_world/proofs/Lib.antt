@@ -6,3 +6,7 @@ pub mod Firsts
 pub mod Counters
 pub mod Unnamed
 pub mod Mentioned
+pub mod MentionLists
+pub mod SketchLists
+pub mod SketchWorlds
+pub mod Judging

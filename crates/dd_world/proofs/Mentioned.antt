@@ -12,9 +12,10 @@ use Rattle.dd_interp.specs.Meaning.{meaning}
 use Rattle.dd_interp.specs.Satisfies.{IsShaped}
 use Rattle.dd_peer.specs.declared.version.Rule.{Rule}
 use Rattle.dd_world.specs.declared.world.World.{World}
+use Rattle.dd_world.specs.Named.{all_named, names_at, roles_at}
 use Rattle.dd_world.specs.World.{IsLink}
-use Rattle.dd_world.specs.Elements.{names_at, roles_at, size_at, holds_at}
-use Rattle.dd_world.specs.Tests.{all_below, all_named, is_under, passes, joins, leads_to, is_reached, keeps_onto, satisfies_onto}
+use Rattle.dd_world.specs.Elements.{size_at, holds_at}
+use Rattle.dd_world.specs.Tests.{all_below, is_under, passes, joins, leads_to, is_reached, keeps_onto, satisfies_onto}
 use Rattle.dd_world.proofs.Unnamed.{IsUnnamed, named-bound, named_are_all, meaning-unnamed}
 
 names_of : Option Interp → List (ℕ × ℕ)

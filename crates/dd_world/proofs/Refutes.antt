@@ -2,5 +2,4 @@
 use Rattle.dd_world.specs.World.{CountersRefute}
 
 pub refutes : CountersRefute
-refutes p q w c f = c.element.3.lacks_right
-    (f w c.world c.satisfies c.element.0 c.element.2 c.element.1 c.element.3.within c.element.3.has_left)
+refutes p q w c f = c.element.1.lacks_right (f w c.world c.satisfies c.element.0 c.element.1.within c.element.1.has_left)

@@ -2,9 +2,8 @@
 use Rattle.std.proofs.Common.{◌≡◌, Bool, true, false, not, ◌||◌, cond, Option, None, Some, refl, ◌⊎◌, inl, inr}
 use Rattle.std.specs.Bool.{Decides}
 use Rattle.std.proofs.lemmas.Bool.Decides.{Decides-like}
-use Rattle.std.specs.Option.{option_map}
+use Rattle.std.specs.Option.{option_map, option_or}
 use Rattle.std.proofs.lemmas.Option.{same_Some}
-use Rattle.dd_peer.specs.Refusals.{first_of}
 
 pub not_passing : (a b : Bool) → (not a || b) ≡ false → (a ≡ true) × (b ≡ false)
 not_passing true b e = (refl, e)
@@ -17,27 +16,19 @@ implied false b = (λ e f. cc, λ f. refl)
 pub decides_implied : {Q : Type 0} (a b : Bool) → Decides b Q → Decides (not a || b) (a ≡ true → Q)
 decides_implied a b d = Decides-like (not a || b) (λ f e. d.0 (f e)) (λ f e. d.1 (f e)) (implied a b)
 
-pub first_none : {A : Type 0} (a b : Option A) → first_of a b ≡ None → (a ≡ None) × (b ≡ None)
-first_none None b e = (refl, e)
-first_none (Some x) b e = cc
-
-pub cond_none : {A : Type 0} (b : Bool) (x : A) → cond b (Some x) None ≡ None → b ≡ false
-cond_none true x e = cc
-cond_none false x e = refl
-
 pub cond_else_none : {A : Type 0} (b : Bool) (x : A) → cond b None (Some x) ≡ None → b ≡ true
 cond_else_none true x e = refl
 cond_else_none false x e = cc
 
-pub first_at_some : {A : Type 0} (a b : Option A) (x : A) → a ≡ Some x → first_of a b ≡ Some x
+pub first_at_some : {A : Type 0} (a b : Option A) (x : A) → a ≡ Some x → option_or a b ≡ Some x
 first_at_some None b x e = cc
 first_at_some (Some y) b x e = e
 
-pub first_after_none : {A : Type 0} (a b o : Option A) → a ≡ None → b ≡ o → first_of a b ≡ o
+pub first_after_none : {A : Type 0} (a b o : Option A) → a ≡ None → b ≡ o → option_or a b ≡ o
 first_after_none None b o e f = f
 first_after_none (Some x) b o e f = cc
 
-pub first_some : {A : Type 0} (a b : Option A) (x : A) → first_of a b ≡ Some x → (a ≡ Some x) ⊎ ((a ≡ None) × (b ≡ Some x))
+pub first_some : {A : Type 0} (a b : Option A) (x : A) → option_or a b ≡ Some x → (a ≡ Some x) ⊎ ((a ≡ None) × (b ≡ Some x))
 first_some None b x e = inr (refl, e)
 first_some (Some y) b x e = inl e
 

@@ -1,5 +1,5 @@
 -- The elements of a world's peers, and what they have.
-use Rattle.std.specs.Prelude.{ℕ, ◌<◌, Bool, false, IsTrue, List, [], slice_get}
+use Rattle.std.specs.Prelude.{ℕ, ◌<◌, Bool, false, IsTrue, slice_get}
 use Rattle.std.specs.Option.{option_map_or}
 use Rattle.dd_concept.specs.declared.concept.Concept.{Concept}
 use Rattle.dd_interp.specs.declared.interp.Interp.{Interp}
@@ -9,13 +9,6 @@ use Rattle.dd_world.specs.declared.world.World.{World}
 -- the number of elements of peer i: a peer without an interpretation has none
 abbrev pub size_at : World → ℕ → ℕ
 size_at w i = option_map_or (λ (local : Interp). local.size) (slice_get w.locals i) 0
-
--- the names of the elements of peer i, and their roles
-abbrev pub names_at : World → ℕ → List (ℕ × ℕ)
-names_at w i = option_map_or (λ (local : Interp). local.names) (slice_get w.locals i) []
-
-abbrev pub roles_at : World → ℕ → List (ℕ × ℕ × ℕ)
-roles_at w i = option_map_or (λ (local : Interp). local.roles) (slice_get w.locals i) []
 
 -- is x at peer i one of the concept, as a test
 abbrev pub holds_at : World → ℕ → ℕ → Concept → Bool

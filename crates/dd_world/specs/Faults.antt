@@ -1,13 +1,11 @@
 -- Why a world is no countermodel of a query: the first fault, in one order.
 use Rattle.std.specs.Prelude.{◌≡◌, ℕ, ◌+◌, ◌<◌, All, Bool, not, if◌then◌else◌, List, [], ◌∷◌, position, slice_get, Option, None, Some, Result, Ok, Err}
-use Rattle.std.specs.Option.{option_map}
-use Rattle.dd_peer.specs.Refusals.{first_of}
+use Rattle.std.specs.Option.{option_map, option_or}
 use Rattle.dd_peer.specs.declared.version.Pinned.{Pinned}
 use Rattle.dd_peer.specs.declared.version.PeerVersion.{PeerVersion}
 use Rattle.dd_peer.specs.declared.version.Query.{Query}
 use Rattle.dd_peer.specs.declared.version.Rule.{Rule}
 use Rattle.dd_concept.specs.declared.concept.Axiom.{Axiom}
-use Rattle.dd_interp.specs.declared.interp.Interp.{Interp}
 use Rattle.dd_world.specs.declared.world.World.{World}
 use Rattle.dd_world.specs.declared.world.WorldFault.{WorldFault}
 use Rattle.dd_world.specs.declared.world.WorldFault.TheVariants as fault
@@ -18,15 +16,15 @@ use Rattle.dd_world.specs.World.{IsWorld, SatisfiesAt, SatisfiesInto, SatisfiesO
 abbrev pub first_failing : {A : Type 0} → (PeerVersion → List A) → (ℕ → A → Bool) → ℕ → List PeerVersion → Option (ℕ × ℕ)
 first_failing list test j [] = None
 first_failing list test j (v ∷ vs) =
-    first_of (option_map (λ k. (j, k)) (position (λ item. not (test j item)) (list v))) (first_failing list test (j + 1) vs)
+    option_or (option_map (λ k. (j, k)) (position (λ item. not (test j item)) (list v))) (first_failing list test (j + 1) vs)
 
 -- the first fault in this order: the shape, an axiom, an into rule, an onto rule, and that no element counters the query
 abbrev pub fault_of : Pinned → Query → World → Option WorldFault
 fault_of p q w =
-    first_of (if is_world p w then None else Some fault.Shape)
-    (first_of (option_map (λ at. fault.Axiom at.0 at.1) (first_failing (λ v. v.axioms) (satisfies_axiom w) 0 p.peers))
-    (first_of (option_map (λ at. fault.Into at.0 at.1) (first_failing (λ v. v.into) (satisfies_into w) 0 p.peers))
-    (first_of (option_map (λ at. fault.Onto at.0 at.1) (first_failing (λ v. v.onto) (satisfies_onto w) 0 p.peers))
+    option_or (if is_world p w then None else Some fault.Shape)
+    (option_or (option_map (λ at. fault.Axiom at.0 at.1) (first_failing (λ v. v.axioms) (satisfies_axiom w) 0 p.peers))
+    (option_or (option_map (λ at. fault.Into at.0 at.1) (first_failing (λ v. v.into) (satisfies_into w) 0 p.peers))
+    (option_or (option_map (λ at. fault.Onto at.0 at.1) (first_failing (λ v. v.onto) (satisfies_onto w) 0 p.peers))
     (if is_under w q.peer q.left q.right then Some fault.NotCounter else None))))
 
 -- what a judge answers, by the first fault
@@ -58,4 +56,4 @@ IsFirstFault p q w (fault.Into j k) = IsWorld p w × EachHolds Axiom (λ v. v.ax
 IsFirstFault p q w (fault.Onto j k) = IsWorld p w × EachHolds Axiom (λ v. v.axioms) (SatisfiesAt w) p
     × EachHolds Rule (λ v. v.into) (SatisfiesInto w) p × IsFirstFailing Rule (λ v. v.onto) (SatisfiesOnto w) p j k
 IsFirstFault p q w fault.NotCounter = IsWorld p w × SatisfiesWorld p w
-    × ¬ ((i : Interp) × (x : ℕ) × (slice_get w.locals q.peer ≡ Some i) × IsCounterexample i q x)
+    × ¬ ((x : ℕ) × IsCounterexample w q x)

@@ -1,4 +1,8 @@
 pub mod Elements
 pub mod World
+pub mod Named
 pub mod Tests
 pub mod Faults
+pub mod Mentions
+pub mod Sketches
+pub mod Kinds

@@ -7,7 +7,7 @@ use Rattle.dd_interp.specs.declared.interp.Interp.{Interp}
 use Rattle.dd_peer.specs.declared.version.Pinned.{Pinned}
 use Rattle.dd_peer.specs.declared.version.Rule.{Rule}
 use Rattle.dd_world.specs.declared.world.World.{World}
-use Rattle.dd_world.specs.Elements.{size_at, names_at, roles_at, holds_at}
+use Rattle.dd_world.specs.Elements.{size_at, holds_at}
 
 -- does each number below n pass
 abbrev pub all_below : ℕ → (ℕ → Bool) → Bool
@@ -22,10 +22,6 @@ has_shape i = list_all (λ p. nat_lt p.1 i.size) i.names
 -- does the link lead from an element to an element of another peer
 abbrev pub is_link : World → ℕ × ℕ × ℕ × ℕ → Bool
 is_link w link = not (link.0 == link.1) && (nat_lt link.2 (size_at w link.0) && nat_lt link.3 (size_at w link.1))
-
--- does each element of peer i pass that is in a name or at the start of a role
-abbrev pub all_named : World → ℕ → (ℕ → Bool) → Bool
-all_named w i p = list_all (λ a. p a.1) (names_at w i) && list_all (λ t. p t.1) (roles_at w i)
 
 -- is there one shaped interpretation per peer, and is each link one
 abbrev pub is_world : Pinned → World → Bool

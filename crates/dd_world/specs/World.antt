@@ -3,9 +3,7 @@
 -- After the distributed description logics of Borgida and Serafini.
 use Rattle.std.specs.Prelude.{◌≡◌, ◌≢◌, ℕ, ◌<◌, length, slice_get, Some, All, Any}
 use Rattle.dd_concept.specs.declared.concept.Axiom.{Axiom}
-use Rattle.dd_interp.specs.declared.interp.Interp.{Interp}
-use Rattle.dd_interp.specs.Meaning.{Holds}
-use Rattle.dd_interp.specs.Satisfies.{IsShaped, SatisfiesAxiom}
+use Rattle.dd_interp.specs.Satisfies.{IsShaped}
 use Rattle.dd_peer.specs.declared.version.Pinned.{Pinned}
 use Rattle.dd_peer.specs.declared.version.PeerVersion.{PeerVersion}
 use Rattle.dd_peer.specs.declared.version.Query.{Query}
@@ -26,9 +24,9 @@ pub record IsWorld (p : Pinned) (w : World) : Type 0 where
   pub shaped : All IsShaped w.locals
   pub links : All (IsLink w) w.links
 
--- the interpretation of peer j satisfies the axiom
+-- the axiom that peer j has: each element of the left concept is one of the right concept
 abbrev pub SatisfiesAt : World → ℕ → Axiom → Type 0
-SatisfiesAt w j a = (i : Interp) → slice_get w.locals j ≡ Some i → SatisfiesAxiom i a
+SatisfiesAt w j a = (x : ℕ) → IsElement w j x → HoldsAt w j x a.left → HoldsAt w j x a.right
 
 -- an into rule that peer j keeps: each link from its peer that starts in the source ends in the target
 abbrev pub SatisfiesInto : World → ℕ → Rule → Type 0
@@ -59,20 +57,19 @@ SatisfiesWorld p w = (j : ℕ) (v : PeerVersion) → slice_get p.peers j ≡ Som
 -- concept has the right one.
 abbrev pub Follows : Pinned → Query → Type 0
 Follows p q = (w : World) → IsWorld p w → SatisfiesWorld p w
-    → (i : Interp) → slice_get w.locals q.peer ≡ Some i
-    → (x : ℕ) → x < i.size → Holds i x q.left → Holds i x q.right
+    → (x : ℕ) → IsElement w q.peer x → HoldsAt w q.peer x q.left → HoldsAt w q.peer x q.right
 
 -- this element of the query's peer has the left concept and lacks the right one
-pub record IsCounterexample (i : Interp) (q : Query) (x : ℕ) : Type 0 where
-  pub within : x < i.size
-  pub has_left : Holds i x q.left
-  pub lacks_right : ¬ (Holds i x q.right)
+pub record IsCounterexample (w : World) (q : Query) (x : ℕ) : Type 0 where
+  pub within : IsElement w q.peer x
+  pub has_left : HoldsAt w q.peer x q.left
+  pub lacks_right : ¬ (HoldsAt w q.peer x q.right)
 
 -- a world of these peers that satisfies their versions, with an element of the query's peer that has left and lacks right
 pub record IsCounter (p : Pinned) (q : Query) (w : World) : Type 0 where
   pub world : IsWorld p w
   pub satisfies : SatisfiesWorld p w
-  pub element : (i : Interp) × (x : ℕ) × (slice_get w.locals q.peer ≡ Some i) × IsCounterexample i q x
+  pub element : (x : ℕ) × IsCounterexample w q x
 
 -- a countermodel shows that the query does not follow
 abbrev pub CountersRefute : Type 0

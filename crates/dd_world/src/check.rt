@@ -1,11 +1,13 @@
 ghost use Rattle.std.specs.Prelude.{◌≡◌, ◌+◌, ◌^◌, ◌<◌, ◌↔◌, All, IsOk, length, not, position};
 ghost use Rattle.dd_interp.specs.Satisfies.{IsShaped};
-ghost use Rattle.dd_world.specs.Faults.{IsFirstFault, fault_of, first_failing, judged_by};
+ghost use Rattle.dd_world.specs.Faults.{IsFirstFault, fault_of, judged_by};
+ghost use Rattle.dd_world.specs.Kinds.{failing, first_of_kind};
 ghost use Rattle.dd_world.specs.declared.world.WorldFault.{WorldFault};
 ghost use Rattle.dd_world.specs.Tests.{satisfies_axiom, satisfies_into, satisfies_onto};
 ghost use Rattle.dd_world.specs.World.{IsCounter, IsLink, IsWorld};
 
 use crate::included::is_included;
+use crate::kind::Kind;
 use crate::rules::{meets_into, meets_onto};
 use crate::shape::has_world_shape;
 use crate::world::{World, WorldFault};
@@ -34,13 +36,13 @@ fn judge(p: &Pinned, q: &Query, w: &World) -> Result<(), WorldFault>
     if !has_world_shape(p, w) {
         return Err(WorldFault::Shape);
     }
-    if let Some((peer, index)) = first_axiom(p, w) {
+    if let Some((peer, index)) = first(p, w, Kind::Axioms) {
         return Err(WorldFault::Axiom { peer, index });
     }
-    if let Some((peer, index)) = first_into(p, w) {
+    if let Some((peer, index)) = first(p, w, Kind::Into) {
         return Err(WorldFault::Into { peer, index });
     }
-    if let Some((peer, index)) = first_onto(p, w) {
+    if let Some((peer, index)) = first(p, w, Kind::Onto) {
         return Err(WorldFault::Onto { peer, index });
     }
     if is_included(w, q.peer, &q.left, &q.right) {
@@ -50,48 +52,33 @@ fn judge(p: &Pinned, q: &Query, w: &World) -> Result<(), WorldFault>
     }
 }
 
-fn first_axiom(p: &Pinned, w: &World) -> Option<(u32, u32)>
+// The first peer with an item of the kind that fails, and the item's place.
+fn first(p: &Pinned, w: &World, kind: Kind) -> Option<(u32, u32)>
     requires world { IsWorld p.now w.now }
     requires peers { length p.now.peers < 2 ^ 32 }
     requires axioms { All (λ v. length v.axioms < 2 ^ 32) p.now.peers }
-    ensures { result ≡ first_failing (λ v. v.axioms) (satisfies_axiom w.now) 0 p.now.peers }
+    requires rules { All (λ v. length v.into + length v.onto < 2 ^ 32) p.now.peers }
+    ensures { result ≡ first_of_kind kind w.now 0 p.now.peers }
 {
     for (peer, version) in p.peers.as_slice().iter().enumerate() {
         let peer = peer as u32;
-        if let Some(index) = axiom_of(w, peer, version.get()) {
+        if let Some(index) = first_in(w, peer, version.get(), kind) {
             return Some((peer, index as u32));
         }
     }
     None
 }
 
-fn first_into(p: &Pinned, w: &World) -> Option<(u32, u32)>
-    requires peers { length p.now.peers < 2 ^ 32 }
-    requires rules { All (λ v. length v.into + length v.onto < 2 ^ 32) p.now.peers }
-    ensures { result ≡ first_failing (λ v. v.into) (satisfies_into w.now) 0 p.now.peers }
+fn first_in(w: &World, peer: u32, v: &PeerVersion, kind: Kind) -> Option<usize>
+    requires shaped { All IsShaped w.now.locals }
+    requires links { All (IsLink w.now) w.now.links }
+    ensures { result ≡ failing kind w.now peer v.now }
 {
-    for (peer, version) in p.peers.as_slice().iter().enumerate() {
-        let peer = peer as u32;
-        if let Some(index) = into_of(w, peer, version.get()) {
-            return Some((peer, index as u32));
-        }
+    match kind {
+        Kind::Axioms => axiom_of(w, peer, v),
+        Kind::Into => into_of(w, peer, v),
+        Kind::Onto => onto_of(w, peer, v),
     }
-    None
-}
-
-fn first_onto(p: &Pinned, w: &World) -> Option<(u32, u32)>
-    requires world { IsWorld p.now w.now }
-    requires peers { length p.now.peers < 2 ^ 32 }
-    requires rules { All (λ v. length v.into + length v.onto < 2 ^ 32) p.now.peers }
-    ensures { result ≡ first_failing (λ v. v.onto) (satisfies_onto w.now) 0 p.now.peers }
-{
-    for (peer, version) in p.peers.as_slice().iter().enumerate() {
-        let peer = peer as u32;
-        if let Some(index) = onto_of(w, peer, version.get()) {
-            return Some((peer, index as u32));
-        }
-    }
-    None
 }
 
 fn axiom_of(w: &World, peer: u32, v: &PeerVersion) -> Option<usize>

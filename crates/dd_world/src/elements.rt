@@ -1,5 +1,6 @@
 ghost use Rattle.std.specs.Prelude.{◌≡◌};
-ghost use Rattle.dd_world.specs.Elements.{holds_at, names_at, roles_at, size_at};
+ghost use Rattle.dd_world.specs.Named.{names_at, roles_at};
+ghost use Rattle.dd_world.specs.Elements.{holds_at, size_at};
 
 use crate::world::World;
 use dd_concept::Concept;

@@ -1,8 +1,8 @@
 ghost use Rattle.std.specs.Prelude.{◌≡◌, All};
 ghost use Rattle.std.specs.List.{list_all};
 ghost use Rattle.dd_interp.specs.Satisfies.{IsShaped};
-ghost use Rattle.dd_world.specs.Elements.{names_at, roles_at};
-ghost use Rattle.dd_world.specs.Tests.{all_named, is_under, passes};
+ghost use Rattle.dd_world.specs.Named.{all_named, names_at, roles_at};
+ghost use Rattle.dd_world.specs.Tests.{is_under, passes};
 
 use crate::elements::{has, names, roles, size};
 use crate::world::World;

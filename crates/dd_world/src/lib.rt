@@ -8,11 +8,16 @@
 mod check;
 mod elements;
 mod included;
+mod judge;
+mod kind;
 mod laws;
+mod mention;
 mod rules;
 mod shape;
+mod sketch;
 mod world;
 
 pub use check::check_world;
+pub use judge::judge_world;
 pub use laws::counters_refute;
 pub use world::{World, WorldFault};

@@ -1,8 +1,8 @@
 ghost use Rattle.std.specs.Prelude.{◌≡◌, All};
 ghost use Rattle.std.specs.List.{list_all};
 ghost use Rattle.dd_interp.specs.Satisfies.{IsShaped};
-ghost use Rattle.dd_world.specs.Elements.{names_at, roles_at};
-ghost use Rattle.dd_world.specs.Tests.{all_named, is_reached, joins, keeps_into, keeps_onto, leads_to, satisfies_into, satisfies_onto};
+ghost use Rattle.dd_world.specs.Named.{all_named, names_at, roles_at};
+ghost use Rattle.dd_world.specs.Tests.{is_reached, joins, keeps_into, keeps_onto, leads_to, satisfies_into, satisfies_onto};
 ghost use Rattle.dd_world.specs.World.{IsLink};
 
 use crate::elements::{has, names, roles, size};
@@ -37,7 +37,7 @@ pub fn meets_onto(w: &World, peer: u32, rule: &Rule) -> bool
 fn link_meets_into(w: &World, peer: u32, rule: &Rule, link: (u32, u32, u32, u32)) -> bool
     ensures { result ≡ keeps_into w.now peer rule.now link }
 {
-    !(is_joint(peer, rule, link) && has(w, rule.from, link.2, &rule.source))
+    !(joins_the_peers(peer, rule, link) && has(w, rule.from, link.2, &rule.source))
         || has(w, peer, link.3, &rule.target)
 }
 
@@ -94,11 +94,11 @@ fn is_end(w: &World, peer: u32, rule: &Rule, x: u32) -> bool
 fn link_leads_to(w: &World, peer: u32, rule: &Rule, x: u32, link: (u32, u32, u32, u32)) -> bool
     ensures { result ≡ leads_to w.now peer rule.now x link }
 {
-    is_joint(peer, rule, link) && link.3 == x && has(w, rule.from, link.2, &rule.source)
+    joins_the_peers(peer, rule, link) && link.3 == x && has(w, rule.from, link.2, &rule.source)
 }
 
 // Whether the link leads from the peer of the rule to this one.
-fn is_joint(peer: u32, rule: &Rule, link: (u32, u32, u32, u32)) -> bool
+fn joins_the_peers(peer: u32, rule: &Rule, link: (u32, u32, u32, u32)) -> bool
     ensures { result ≡ joins peer rule.now link }
 {
     link.0 == rule.from && link.1 == peer

@@ -13,10 +13,10 @@ pub fn has_world_shape(p: &Pinned, w: &World) -> bool
     ensures test { result ≡ is_world p.now w.now }
     ensures meaning { IsTrue result ↔ IsWorld p.now w.now }
 {
-    has_each_part(p, w)
+    is_world_of(p, w)
 }
 
-fn has_each_part(p: &Pinned, w: &World) -> bool
+fn is_world_of(p: &Pinned, w: &World) -> bool
     ensures { result ≡ is_world p.now w.now }
 {
     w.locals.as_slice().len() == p.peers.as_slice().len()
@@ -27,7 +27,10 @@ fn has_each_part(p: &Pinned, w: &World) -> bool
 fn has_shaped_locals(w: &World) -> bool
     ensures { result ≡ list_all has_shape w.now.locals }
 {
-    w.locals.as_slice().iter().all(|local| is_one(local))
+    w.locals
+        .as_slice()
+        .iter()
+        .all(|local| is_interpretation(local))
 }
 
 fn has_links_alone(w: &World) -> bool
@@ -39,7 +42,7 @@ fn has_links_alone(w: &World) -> bool
         .all(|link| leads_between(w, *link))
 }
 
-fn is_one(local: &Interp) -> bool
+fn is_interpretation(local: &Interp) -> bool
     ensures { result ≡ has_shape local.now }
 {
     is_shaped(local)

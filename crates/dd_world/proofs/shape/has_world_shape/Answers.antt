@@ -4,4 +4,4 @@ use Rattle.dd_world.proofs.Decided.{decides_world}
 use Rattle.dd_world.proofs.shape.has_world_shape.Goals as goal
 
 pub returns-clause-meaning : goal.returns-clause-meaning
-returns-clause-meaning c = Decides-at c.has_each_part.result (is_world c.args.p.now c.args.w.now) c.has_each_part.ensures (decides_world c.args.p.now c.args.w.now)
+returns-clause-meaning c = Decides-at c.is_world_of.result (is_world c.args.p.now c.args.w.now) c.is_world_of.ensures (decides_world c.args.p.now c.args.w.now)
