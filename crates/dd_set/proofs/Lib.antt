@@ -1,0 +1,9 @@
+pub mod Reading
+pub mod Putting
+pub mod Comparing
+pub mod Looking
+pub mod Sets
+pub mod Rising
+pub mod Joining
+pub mod Mixing
+pub mod Arrivals

@@ -1,0 +1,18 @@
+use Rattle.std.proofs.Common.{◌&&◌, get_or, refl, arith}
+use Rattle.std.specs.Prelude.{bit_and}
+use Rattle.std.proofs.lemmas.Nat.{and_le_l}
+use Rattle.dd_set.proofs.Mixing.{mixed-start, mixed-more, mixed-has, mixed-packed, bits-both, left_of_both}
+use Rattle.dd_set.proofs.words.keep_all.Goals as goal
+
+pub loop-i-init : goal.loop-i-init
+loop-i-init c = mixed-start (λ x y. x && y) c.args.a.now c.args.b.now
+
+pub loop-i-preserved : goal.loop-i-preserved
+loop-i-preserved c = mixed-more (λ x y. x && y) c.args.a.now c.args.b.now c.loop-i.a c.loop-i.i (bit_and (get_or c.loop-i.a c.loop-i.i 0) (get_or c.args.b.now c.loop-i.i 0))
+    (omega arith) (omega (arith, and_le_l (get_or c.loop-i.a c.loop-i.i 0) (get_or c.args.b.now c.loop-i.i 0))) (λ t lt. bits-both (get_or c.loop-i.a c.loop-i.i 0) (get_or c.args.b.now c.loop-i.i 0) t) c.loop-i.invariant
+
+pub returns-clause-both : goal.returns-clause-both
+returns-clause-both c = mixed-has (λ x y. x && y) c.args.a.now c.args.b.now refl c.loop-i.a c.loop-i.i c.requires (omega arith) c.loop-i.invariant
+
+pub returns-clause-packed : goal.returns-clause-packed
+returns-clause-packed c = mixed-packed (λ x y. x && y) c.args.a.now c.args.b.now refl c.loop-i.a c.loop-i.i c.requires (omega arith) c.loop-i.invariant left_of_both
