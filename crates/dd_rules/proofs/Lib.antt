@@ -1,0 +1,26 @@
+pub mod Parts
+pub mod Once
+pub mod Numbered
+pub mod Closing
+pub mod Lifting
+pub mod LeastLifts
+pub mod RowEq
+pub mod Growing
+pub mod Forming
+pub mod Numbering
+pub mod Visiting
+pub mod Pairing
+pub mod Normality
+pub mod Keeping
+pub mod Kept
+pub mod Within
+mod Rows
+pub mod Walks
+pub mod Clashing
+pub mod Passing
+pub mod Choosing
+pub mod Draining
+pub mod Pending
+pub mod Tabled
+pub mod ClashLifts
+pub mod Stepping

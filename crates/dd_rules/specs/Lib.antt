@@ -1,0 +1,14 @@
+pub mod Closure
+pub mod Numbers
+pub mod Least
+pub mod Compiled
+pub mod Trees
+pub mod Walks
+pub mod Tables
+pub mod Forced
+pub mod Sources
+pub mod Index
+pub mod Handled
+pub mod Tabled
+pub mod Labels
+pub mod Concepts
