@@ -1,0 +1,5 @@
+use Rattle.dd_graph.specs.Goes.{Goes}
+use Rattle.dd_graph.proofs.walk.Walk.settled.Given as goal
+
+abbrev pub invariant-loop : goal.invariant-loop
+invariant-loop l = Goes l.fn.kernel l.kernel

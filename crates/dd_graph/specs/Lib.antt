@@ -1,0 +1,9 @@
+pub mod ConceptSet
+pub mod Right
+pub mod Reached
+pub mod View
+pub mod Decided
+pub mod Goes
+pub mod Trail
+pub mod Last
+pub mod Child
