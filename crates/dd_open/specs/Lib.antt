@@ -1,0 +1,5 @@
+pub mod NotBoth
+pub mod Ways
+pub mod Models
+pub mod Builds
+pub mod Places
