@@ -1,0 +1,6 @@
+-- The copies are those of the items so far.
+use Rattle.std.proofs.Common.{◌≡◌, take}
+use Rattle.dd_task.proofs.copies.copy_labels.Given as goal
+
+abbrev pub invariant-loop-label : goal.invariant-loop-label
+invariant-loop-label l = l.copies ≡ take l.label-index l.labels

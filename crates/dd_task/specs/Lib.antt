@@ -1,0 +1,12 @@
+pub mod Rules
+pub mod Claims
+pub mod Lines
+pub mod Keys
+pub mod Goals
+pub mod Derives
+pub mod Targets
+pub mod Demands
+pub mod Tables
+pub mod Closure
+pub mod Spent
+pub mod Verdicts
