@@ -8,7 +8,7 @@ use Rattle.dd_text.proofs.Building.{Grows-refl, Grows-trans, drop-next, symbol_c
 use Rattle.dd_text.proofs.Numbering.{Appends-refl, Appends-with_text}
 use Rattle.dd_text.proofs.Reading.{left_of, right_of}
 use Rattle.dd_cert.specs.declared.form.LocalForm.{LocalForm}
-use Rattle.dd_cert.specs.Passes.{gather, with_name, with_role, with_local}
+use Rattle.dd_cert.specs.Steps.{gather, with_name, with_role, with_local}
 
 pub Grows-with_name : (s : SymbolLists) (n : List ℕ × ℕ) → Grows s (with_name s n)
 Grows-with_name s n = record { names = Appends-with_text s.names n.0; roles = Appends-refl s.roles }

@@ -10,12 +10,14 @@ use Rattle.dd_text.proofs.Building.{SymbolLists-eq}
 use Rattle.dd_world.specs.declared.world.World.{World}
 use Rattle.dd_cert.specs.declared.add.AddErr.{AddErr}
 use Rattle.dd_cert.specs.declared.add.AddErr.TheVariants as added
+use Rattle.dd_cert.specs.declared.form.CertForm.{CertForm}
 use Rattle.dd_cert.specs.declared.form.LocalForm.{LocalForm}
 use Rattle.dd_cert.specs.declared.form.WorldForm.{WorldForm}
+use Rattle.dd_cert.specs.declared.read.Cert.TheVariants as cert
 use Rattle.dd_cert.specs.declared.read.CertErr.{CertErr}
 use Rattle.dd_cert.specs.declared.read.CertErr.TheVariants as err
-use Rattle.dd_cert.specs.Certificates.{◌>>=◌, Tried, full, Certified, Tells, world_form, first_above, none_above, all_named, unless, numbers_of, texts_of, names_of_local, roles_of_local, certified, cert_in, with_world, world_by}
-use Rattle.dd_cert.specs.Passes.{TellsForm, refusal_of, gather, past_numbers, past_texts, with_name, with_role, with_local}
+use Rattle.dd_cert.specs.Certificates.{◌>>=◌, Tried, full, Certified, Tells, cert_form, first_above, none_above, all_named, unless, numbers_of, texts_of, names_of_local, roles_of_local, certified_world, certified, cert_in, with_world, world_by}
+use Rattle.dd_cert.specs.Steps.{TellsForm, refusal_of, gather, past_numbers, past_texts, with_name, with_role, with_local}
 use Rattle.dd_cert.proofs.Passing.{StopsAtNumber, StopsAtText, numbers-stop, texts-stop}
 
 -- ---- the symbols of a world
@@ -54,16 +56,20 @@ world-gathered s w = locals-gathered s w.locals
 
 -- ---- what stops the reading
 
-pub form-told : (s : SymbolLists) (d : Data) (e : CertErr) → TellsForm e (world_form d) → Tells e (cert_in s d)
-form-told s d (err.Shape name) h = ap (λ (found : Tried WorldForm). found >>= certified s) h
+-- what a form says is what the value says
+pub form-told : (s : SymbolLists) (d : Data) (e : CertErr) → TellsForm e (cert_form d) → Tells e (cert_in s d)
+form-told s d (err.Shape name) h = ap (λ (found : Tried CertForm). found >>= certified s) h
 form-told s d (err.Index at n) h = absurd h
 form-told s d (err.Text at) h = absurd h
 form-told s d err.SymbolsFull h = absurd h
 form-told s d err.NoMemory h = tt
 
--- a form that is found, and what is then still to be tested
+pub form-found : (s : SymbolLists) (d : Data) (f : CertForm) → cert_form d ≡ Ok f → cert_in s d ≡ certified s f
+form-found s d f h = ap (λ (found : Tried CertForm). found >>= certified s) h
+
+-- what is still to be tested of a world
 abbrev roomy : SymbolLists → WorldForm → Bool → Tried Certified
-roomy s w room = unless full room >>= (λ r. Ok (record { world = world_by (with_world s w) w; symbols = with_world s w }))
+roomy s w room = unless full room >>= (λ r. Ok (record { cert = cert.No (world_by (with_world s w) w); symbols = with_world s w }))
 
 abbrev named : SymbolLists → WorldForm → Option ℕ → Tried Certified
 named s w found = all_named found >>= (λ n. roomy s w (nat_le (symbol_count (with_world s w)) most_symbols))
@@ -71,46 +77,43 @@ named s w found = all_named found >>= (λ n. roomy s w (nat_le (symbol_count (wi
 abbrev below : SymbolLists → WorldForm → Option (ℕ × ℕ) → Tried Certified
 below s w found = none_above found >>= (λ b. named s w (position (λ t. not (names_a_thing t)) (texts_of w)))
 
-form-found : (s : SymbolLists) (d : Data) (w : WorldForm) → world_form d ≡ Ok w → cert_in s d ≡ below s w (first_above 0 (numbers_of w))
-form-found s d w h = ap (λ (found : Tried WorldForm). found >>= certified s) h
-
-pub number-told : (s : SymbolLists) (d : Data) (w : WorldForm) (e : CertErr) → world_form d ≡ Ok w → Err e ≡ past_numbers w → Tells e (cert_in s d)
-number-told s d w e h stops =
+pub number-told : (s : SymbolLists) (w : WorldForm) (e : CertErr) → Err e ≡ past_numbers w → Tells e (certified_world s w)
+number-told s w e stops =
     let first : StopsAtNumber (first_above 0 (numbers_of w)) (Err e) = subst (StopsAtNumber (first_above 0 (numbers_of w))) (sym stops) (numbers-stop w) in
-    subst (λ x. Tells x (cert_in s d)) (sym first.3) (first.0, form-found s d w h ∙ ap (below s w) first.2, refl)
+    subst (λ x. Tells x (certified_world s w)) (sym first.3) (first.0, ap (below s w) first.2, refl)
 
-numbers-found : (s : SymbolLists) (d : Data) (w : WorldForm) (n : ℕ) → world_form d ≡ Ok w → Ok n ≡ past_numbers w
-    → cert_in s d ≡ named s w (position (λ t. not (names_a_thing t)) (texts_of w))
-numbers-found s d w n h passed =
+numbers-found : (s : SymbolLists) (w : WorldForm) (n : ℕ) → Ok n ≡ past_numbers w
+    → certified_world s w ≡ named s w (position (λ t. not (names_a_thing t)) (texts_of w))
+numbers-found s w n passed =
     let none : first_above 0 (numbers_of w) ≡ None = subst (StopsAtNumber (first_above 0 (numbers_of w))) (sym passed) (numbers-stop w) in
-    form-found s d w h ∙ ap (below s w) none
+    ap (below s w) none
 
-pub text-told : (s : SymbolLists) (d : Data) (w : WorldForm) (n : ℕ) (e : CertErr) → world_form d ≡ Ok w → Ok n ≡ past_numbers w → Err e ≡ past_texts w → Tells e (cert_in s d)
-text-told s d w n e h passed stops =
+pub text-told : (s : SymbolLists) (w : WorldForm) (n : ℕ) (e : CertErr) → Ok n ≡ past_numbers w → Err e ≡ past_texts w → Tells e (certified_world s w)
+text-told s w n e passed stops =
     let first : StopsAtText (position (λ t. not (names_a_thing t)) (texts_of w)) (Err e) = subst (StopsAtText (position (λ t. not (names_a_thing t)) (texts_of w))) (sym stops) (texts-stop w) in
-    subst (λ x. Tells x (cert_in s d)) (sym first.2) (first.0, numbers-found s d w n h passed ∙ ap (named s w) first.1, refl)
+    subst (λ x. Tells x (certified_world s w)) (sym first.2) (first.0, numbers-found s w n passed ∙ ap (named s w) first.1, refl)
 
-texts-found : (s : SymbolLists) (d : Data) (w : WorldForm) (n m : ℕ) → world_form d ≡ Ok w → Ok n ≡ past_numbers w → Ok m ≡ past_texts w
-    → cert_in s d ≡ roomy s w (nat_le (symbol_count (with_world s w)) most_symbols)
-texts-found s d w n m h numbers texts =
+texts-found : (s : SymbolLists) (w : WorldForm) (n m : ℕ) → Ok n ≡ past_numbers w → Ok m ≡ past_texts w
+    → certified_world s w ≡ roomy s w (nat_le (symbol_count (with_world s w)) most_symbols)
+texts-found s w n m numbers texts =
     let none : position (λ t. not (names_a_thing t)) (texts_of w) ≡ None = subst (StopsAtText (position (λ t. not (names_a_thing t)) (texts_of w))) (sym texts) (texts-stop w) in
-    numbers-found s d w n h numbers ∙ ap (named s w) none
+    numbers-found s w n numbers ∙ ap (named s w) none
 
-pub full-told : (s : SymbolLists) (d : Data) (w : WorldForm) (n m : ℕ) → world_form d ≡ Ok w → Ok n ≡ past_numbers w → Ok m ≡ past_texts w
-    → 65536 < symbol_count (gather with_local s w.locals) → cert_in s d ≡ Err full
-full-told s d w n m h numbers texts many =
-    texts-found s d w n m h numbers texts
+pub full-told : (s : SymbolLists) (w : WorldForm) (n m : ℕ) → Ok n ≡ past_numbers w → Ok m ≡ past_texts w
+    → 65536 < symbol_count (gather with_local s w.locals) → certified_world s w ≡ Err full
+full-told s w n m numbers texts many =
+    texts-found s w n m numbers texts
     ∙ ap (roomy s w) (lt-leb (symbol_count (with_world s w)) most_symbols (subst (λ t. 65536 < symbol_count t) (world-gathered s w) many))
 
-pub cert-found : (s new : SymbolLists) (d : Data) (w : WorldForm) (n m : ℕ) (world : World) → world_form d ≡ Ok w → Ok n ≡ past_numbers w → Ok m ≡ past_texts w
-    → new ≡ gather with_local s w.locals → symbol_count new ≤ 65536 → world ≡ world_by new w → cert_in s d ≡ Ok (record { world = world; symbols = new })
-cert-found s new d w n m world h numbers texts added few is =
+pub cert-found : (s new : SymbolLists) (w : WorldForm) (n m : ℕ) (world : World) → Ok n ≡ past_numbers w → Ok m ≡ past_texts w
+    → new ≡ gather with_local s w.locals → symbol_count new ≤ 65536 → world ≡ world_by new w → certified_world s w ≡ Ok (record { cert = cert.No world; symbols = new })
+cert-found s new w n m world numbers texts added few is =
     let all : new ≡ with_world s w = added ∙ world-gathered s w in
     let room = le-leb (symbol_count (with_world s w)) most_symbols (subst (λ t. symbol_count t ≤ 65536) all few) in
     let built : world ≡ world_by (with_world s w) w = is ∙ ap (λ t. world_by t w) all in
-    texts-found s d w n m h numbers texts ∙ ap (roomy s w) room
-    ∙ ap (λ (x : World). let c : Certified = record { world = x; symbols = with_world s w } in Ok c) (sym built)
-    ∙ ap (λ (t : SymbolLists). let c : Certified = record { world = world; symbols = t } in Ok c) (sym all)
+    texts-found s w n m numbers texts ∙ ap (roomy s w) room
+    ∙ ap (λ (x : World). let c : Certified = record { cert = cert.No x; symbols = with_world s w } in Ok c) (sym built)
+    ∙ ap (λ (t : SymbolLists). let c : Certified = record { cert = cert.No world; symbols = t } in Ok c) (sym all)
 
 pub refused-told : (e : AddErr) (found : Tried Certified) → (e ≡ added.SymbolsFull → found ≡ Err full) → Tells (refusal_of e) found
 refused-told added.SymbolsFull found h = h refl

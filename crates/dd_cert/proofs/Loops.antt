@@ -1,8 +1,8 @@
 -- Loops over a list: what is walked from a place on, and what is made of its items.
-use Rattle.std.proofs.Common.{◌≡◌, ℕ, ◌+◌, ◌<◌, ◌≤◌, List, [], ◌∷◌, ◌++◌, map, length, take, drop, get_or, Result, Ok, Err, sym, ap, ◌∙◌}
+use Rattle.std.proofs.Common.{◌≡◌, ℕ, ◌+◌, ◌<◌, ◌≤◌, List, [], ◌∷◌, ◌++◌, map, length, take, drop, get_or, Result, Ok, sym, ap, ◌∙◌}
 use Rattle.std.proofs.lemmas.List.{drop_all, map-append, take_all, take_more}
 use Rattle.dd_cert.specs.declared.read.CertErr.{CertErr}
-use Rattle.dd_cert.specs.Passes.{◌>>=◌, walk}
+use Rattle.dd_cert.specs.Steps.{◌>>=◌, walk}
 use Rattle.dd_text.proofs.Building.{drop-next}
 
 -- ---- a walk, of which the rest from i on is to be walked from a place

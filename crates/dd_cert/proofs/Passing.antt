@@ -12,7 +12,7 @@ use Rattle.dd_cert.specs.declared.form.WorldForm.{WorldForm}
 use Rattle.dd_cert.specs.declared.read.CertErr.{CertErr}
 use Rattle.dd_cert.specs.declared.read.CertErr.TheVariants as err
 use Rattle.dd_cert.specs.Certificates.{first_above, numbers_of_link, numbers_of_role, numbers_of_local, numbers_of, names_of_local, roles_of_local, texts_of}
-use Rattle.dd_cert.specs.Passes.{◌>>=◌, walk, past_number, past_link, past_element, past_ends, past_local, past_numbers, past_text, past_name, past_role, past_symbols, past_texts, fits, link_fits, name_fits, role_fits, local_fits, world_fits, has_name, has_role, has_names}
+use Rattle.dd_cert.specs.Steps.{◌>>=◌, walk, past_number, past_link, past_element, past_ends, past_local, past_numbers, past_text, past_name, past_role, past_symbols, past_texts, fits, link_fits, name_fits, role_fits, local_fits, world_fits, has_name, has_role, has_names}
 
 -- ---- one part after another
 

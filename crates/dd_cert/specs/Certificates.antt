@@ -1,13 +1,19 @@
--- Which values are certificates of kind `no`, the world that one is, and where a value stops to be one.
-use Rattle.std.specs.Prelude.{◌≡◌, ℕ, ◌+◌, not, nat_le, nat_lt, List, [], ◌∷◌, ◌++◌, map, position, if◌then◌else◌, Bool, Option, None, Some, Result, Ok, Err, codes, ⊤}
+-- Which values are certificates, what one is evidence of, and where a value stops to be one: by kinds, of which `no` is one.
+use Rattle.std.specs.Prelude.{◌≡◌, ℕ, ◌+◌, not, nat_le, nat_lt, List, [], ◌∷◌, ◌++◌, map, position, if◌then◌else◌, Option, None, Some, Result, Ok, Err, codes, ⊤}
 use Rattle.std.specs.List.{flat_map}
 use Rattle.serde_json.specs.Data.{Data}
+use Rattle.dd_json.specs.InOrder.{wanted}
+pub use Rattle.dd_json.specs.InOrder.{◌>>=◌, unless}
 use Rattle.dd_json.specs.Members.{largest_index}
 use Rattle.dd_text.specs.Names.{names_a_thing}
 use Rattle.dd_text.specs.Reads.{told}
 use Rattle.dd_text.specs.Symbols.{SymbolLists, most_symbols, symbol_count, number_of, with_texts}
 use Rattle.dd_interp.specs.declared.interp.Interp.{Interp}
 use Rattle.dd_world.specs.declared.world.World.{World}
+use Rattle.dd_cert.specs.declared.form.CertForm.{CertForm}
+use Rattle.dd_cert.specs.declared.form.CertForm.TheVariants as form
+use Rattle.dd_cert.specs.declared.form.Kind.{Kind}
+use Rattle.dd_cert.specs.declared.form.Kind.TheVariants as kind
 use Rattle.dd_cert.specs.declared.form.LocalForm.{LocalForm}
 use Rattle.dd_cert.specs.declared.form.WorldForm.{WorldForm}
 use Rattle.dd_cert.specs.declared.read.Cert.{Cert}
@@ -28,31 +34,28 @@ pub data Unreadable : Type 0 where
 abbrev pub Tried : Type 0 → Type 0
 Tried A = Result A Unreadable
 
-infixl 10 ◌>>=◌
--- one test, and then the next one with what passed
-abbrev pub ◌>>=◌ : {A B : Type 0} → Tried A → (A → Tried B) → Tried B
-(Ok x) >>= f = f x
-(Err e) >>= f = Err e
-
 -- a member that has to be there
 abbrev pub member : {A : Type 0} → List ℕ → Option A → Tried A
-member name None = Err (field name)
-member name (Some x) = Ok x
-
--- a fact that has to hold
-abbrev pub unless : Unreadable → Bool → Tried Bool
-unless e holds = if holds then Ok holds else Err e
+member name found = wanted (field name) found
 
 -- ---- the form
 
 -- the world as it is written
 unfoldable pub world_form : Data → Tried WorldForm
 world_form d = do
-  format ← member (codes "format") (format_at d)
-  kind ← member (codes "kind") (kind_at d)
   links ← member (codes "links") (links_at d)
   locals ← member (codes "locals") (locals_at d)
   Ok (record { links = links; locals = locals })
+
+-- the certificate as it is written, by its kind
+abbrev pub form_by : Kind → Data → Tried CertForm
+form_by kind.No d = world_form d >>= (λ w. Ok (form.No w))
+
+unfoldable pub cert_form : Data → Tried CertForm
+cert_form d = do
+  format ← member (codes "format") (format_at d)
+  kind ← member (codes "kind") (kind_at d)
+  form_by kind d
 
 -- ---- the numbers, from 0 in reading order
 
@@ -108,21 +111,25 @@ local_by s l = record {
 abbrev pub world_by : SymbolLists → WorldForm → World
 world_by s w = record { locals = map (local_by s) w.locals; links = w.links }
 
--- a world, and the symbols with those that it brings
+-- the evidence, and the symbols with those that it brings
 pub record Certified : Type 0 where
-  pub world : World
+  pub cert : Cert
   pub symbols : SymbolLists
 
--- the world that a value is, or where it stops to be a certificate: first its form, then its numbers, then its texts, and
--- at last the room for symbols
-abbrev pub certified : SymbolLists → WorldForm → Tried Certified
-certified s w = none_above (first_above 0 (numbers_of w))
+-- the world that a form is, or where it stops to be one: first its numbers, then its texts, and at last the room for symbols
+abbrev pub certified_world : SymbolLists → WorldForm → Tried Certified
+certified_world s w = none_above (first_above 0 (numbers_of w))
     >>= (λ below. all_named (position (λ t. not (names_a_thing t)) (texts_of w))
     >>= (λ named. unless full (nat_le (symbol_count (with_world s w)) most_symbols)
-    >>= (λ room. Ok (record { world = world_by (with_world s w) w; symbols = with_world s w }))))
+    >>= (λ room. Ok (record { cert = cert.No (world_by (with_world s w) w); symbols = with_world s w }))))
 
+-- what a form is evidence of, by its kind
+abbrev pub certified : SymbolLists → CertForm → Tried Certified
+certified s (form.No w) = certified_world s w
+
+-- what a value is evidence of, or where it stops to be a certificate: its form comes before all else
 abbrev pub cert_in : SymbolLists → Data → Tried Certified
-cert_in s d = world_form d >>= (λ w. certified s w)
+cert_in s d = cert_form d >>= (λ f. certified s f)
 
 -- ---- what is answered
 
@@ -134,7 +141,7 @@ Tells (err.Text index) found = (k : ℕ) × (found ≡ Err (text k)) × (index �
 Tells err.SymbolsFull found = found ≡ Err full
 Tells err.NoMemory found = Unit {0}
 
--- the world that the value is, and its symbols are added; or why it is none, and the symbols stay
-abbrev pub Reads : (old new : SymbolLists) → Data → Result Cert CertErr → Type 0
-Reads old new d (Ok (cert.No w)) = cert_in old d ≡ Ok (record { world = w; symbols = new })
-Reads old new d (Err e) = (new ≡ old) × Tells e (cert_in old d)
+-- the evidence that the value is, and its symbols are added; or why it is none, and the symbols stay
+abbrev pub ReadsCert : (old new : SymbolLists) → Data → Result Cert CertErr → Type 0
+ReadsCert old new d (Ok c) = cert_in old d ≡ Ok (record { cert = c; symbols = new })
+ReadsCert old new d (Err e) = (new ≡ old) × Tells e (cert_in old d)

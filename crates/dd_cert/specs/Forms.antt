@@ -1,10 +1,12 @@
--- The form of certificates of kind `no`: a world as it is written,
+-- The form of certificates by their kinds. One of kind `no` is a world as it is written,
 -- {"format":1,"kind":"no","links":[[I,J,A,B],..],"locals":[{"names":[["A",X],..],"roles":[["r",X,Y],..],"size":N},..]}
 use Rattle.std.specs.Prelude.{ℕ, ◌+◌, ◌==◌, List, [], ◌∷◌, if◌then◌else◌, Option, None, Some, option_and_then, option_map, codes, ⊤}
 use Rattle.std.specs.Str.{bytes_eq}
 use Rattle.serde_json.specs.Data.{Data, Items, no_items, item}
 use Rattle.serde_json.specs.Find.{get, as_array}
 use Rattle.dd_json.specs.Members.{◌>>=◌, text_of, text_at, number_of, items_at, presence, sized}
+use Rattle.dd_cert.specs.declared.form.Kind.{Kind}
+use Rattle.dd_cert.specs.declared.form.Kind.TheVariants as kind
 use Rattle.dd_cert.specs.declared.form.LocalForm.{LocalForm}
 
 -- what is found of each item of a list, where there is something of each
@@ -51,10 +53,21 @@ one n = if n == 1 then Some tt else None
 abbrev pub format_at : Data → Option ⊤
 format_at d = option_and_then one (option_and_then number_of (get (codes "format") d))
 
--- the text `no`, and no member that a certificate does not have
-abbrev pub kind_at : Data → Option ⊤
-kind_at d = option_and_then (λ kind. if bytes_eq kind (codes "no") then sized (2 + presence (codes "links") d + presence (codes "locals") d) d else None)
-    (text_at (codes "kind") d)
+-- the kind with this name
+abbrev pub kind_named : List ℕ → Option Kind
+kind_named name = if bytes_eq name (codes "no") then Some kind.No else None
+
+-- how many members a certificate of this kind has, of those that it may have
+abbrev pub members_of : Kind → Data → ℕ
+members_of kind.No d = 2 + presence (codes "links") d + presence (codes "locals") d
+
+-- the kind of a value that has no member that a certificate of its kind does not have
+unfoldable pub kind_at : Data → Option Kind
+kind_at d = do
+  name ← text_at (codes "kind") d
+  kind ← kind_named name
+  size ← sized (members_of kind d) d
+  Some kind
 
 abbrev pub links_at : Data → Option (List (ℕ × ℕ × ℕ × ℕ))
 links_at d = option_and_then (each_of link_of) (items_at (codes "links") d)

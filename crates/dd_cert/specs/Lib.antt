@@ -1,3 +1,3 @@
 pub mod Forms
 pub mod Certificates
-pub mod Passes
+pub mod Steps

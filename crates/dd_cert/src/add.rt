@@ -2,7 +2,7 @@ ghost use Rattle.std.specs.Prelude.{◌≡◌, ◌<◌, ◌≤◌, Err, IsTrue, 
 ghost use Rattle.std.specs.List.{list_all};
 ghost use Rattle.dd_text.specs.Names.{names_a_thing};
 ghost use Rattle.dd_text.specs.Symbols.{Grows, symbol_count, with_text};
-ghost use Rattle.dd_cert.specs.Passes.{gather, with_name, with_role, with_local, has_name, has_role, has_names};
+ghost use Rattle.dd_cert.specs.Steps.{gather, with_name, with_role, with_local, has_name, has_role, has_names};
 
 use crate::form::LocalForm;
 use dd_json::Text;

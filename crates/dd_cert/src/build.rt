@@ -1,7 +1,7 @@
 ghost use Rattle.std.specs.Prelude.{◌≡◌, IfOk, IsTrue, map};
 ghost use Rattle.std.specs.List.{list_all};
 ghost use Rattle.dd_cert.specs.Certificates.{local_by, world_by};
-ghost use Rattle.dd_cert.specs.Passes.{link_fits, name_fits, role_fits, local_fits, world_fits, name_by, role_by};
+ghost use Rattle.dd_cert.specs.Steps.{link_fits, name_fits, role_fits, local_fits, world_fits, name_by, role_by};
 
 use crate::form::{LocalForm, WorldForm};
 use dd_concept::{Items, NoMemory};

@@ -15,3 +15,16 @@ pub struct WorldForm {
     pub links: Items<(u64, u64, u64, u64)>,
     pub locals: Items<LocalForm>,
 }
+
+/// The kinds of certificates.
+#[derive(Clone, Copy)]
+pub enum Kind {
+    /// A world, for a no.
+    No,
+}
+
+/// A certificate as it is written, by its kind.
+#[derive(Drop)]
+pub enum CertForm {
+    No(WorldForm),
+}

@@ -13,5 +13,5 @@ mod read;
 mod shape;
 
 pub use dd_concept::NoMemory;
-pub use form::{LocalForm, WorldForm};
+pub use form::{CertForm, Kind, LocalForm, WorldForm};
 pub use read::{Cert, CertErr, read_cert};

@@ -1,5 +1,5 @@
 ghost use Rattle.std.specs.Prelude.{◌≡◌};
-ghost use Rattle.dd_cert.specs.Passes.{walk, past_number, past_link, past_element, past_ends, past_local, past_numbers, past_text, past_name, past_role, past_symbols, past_texts};
+ghost use Rattle.dd_cert.specs.Steps.{walk, past_number, past_link, past_element, past_ends, past_local, past_numbers, past_text, past_name, past_role, past_symbols, past_texts};
 
 use crate::form::{LocalForm, WorldForm};
 use crate::read::CertErr;

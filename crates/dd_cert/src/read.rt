@@ -2,14 +2,14 @@ ghost use Rattle.std.specs.Prelude.{◌≡◌, ◌<◌, ◌≤◌, Err, IfOk, Is
 ghost use Rattle.std.specs.List.{list_all};
 ghost use Rattle.serde_json.specs.View.{view};
 ghost use Rattle.dd_text.specs.Symbols.{symbol_count};
-ghost use Rattle.dd_cert.specs.Certificates.{Reads, world_by};
-ghost use Rattle.dd_cert.specs.Passes.{gather, with_local, has_names, world_fits, refusal_of};
+ghost use Rattle.dd_cert.specs.Certificates.{ReadsCert, world_by};
+ghost use Rattle.dd_cert.specs.Steps.{Certifies, gather, with_local, has_names, world_fits, refusal_of};
 
 use crate::add::{AddErr, add_locals};
 use crate::build::build;
-use crate::form::WorldForm;
+use crate::form::{CertForm, WorldForm};
 use crate::limits::{pass_numbers, pass_texts};
-use crate::shape::world;
+use crate::shape::cert_form;
 use dd_text::Symbols;
 use dd_world::World;
 use serde_json::Value;
@@ -40,22 +40,27 @@ pub enum CertErr {
     NoMemory,
 }
 
-/// Reads a certificate of kind `no`. Its new symbols are added in reading order; an error leaves the symbols as they were.
+/// Reads a certificate. Its new symbols are added in reading order; an error leaves the symbols as they were.
 pub fn read_cert(alloc: Global, symbols: &mut Symbols, v: &Value) -> Result<Cert, CertErr>
-    ensures { Reads symbols.old symbols.new (view v.now) result }
+    ensures { ReadsCert symbols.old symbols.new (view v.now) result }
 {
-    let form = match world(alloc, v) {
-        Ok(form) => form,
-        Err(e) => return Err(e),
-    };
-    if let Err(e) = pass_numbers(&form) {
+    match cert_form(alloc, v)? {
+        CertForm::No(form) => Ok(Cert::No(read_world(alloc, symbols, &form)?)),
+    }
+}
+
+/// The world of a form. Its new symbols are added; an error leaves the symbols as they were.
+fn read_world(alloc: Global, symbols: &mut Symbols, form: &WorldForm) -> Result<World, CertErr>
+    ensures { Certifies symbols.old symbols.new form.now result }
+{
+    if let Err(e) = pass_numbers(form) {
         return Err(e);
     }
-    if let Err(e) = pass_texts(&form) {
+    if let Err(e) = pass_texts(form) {
         return Err(e);
     }
-    match certify(alloc, symbols, &form) {
-        Ok(world) => Ok(Cert::No(world)),
+    match certify(alloc, symbols, form) {
+        Ok(world) => Ok(world),
         Err(e) => Err(refused(e)),
     }
 }

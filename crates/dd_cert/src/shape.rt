@@ -1,28 +1,44 @@
 ghost use Rattle.std.specs.Prelude.{◌≡◌};
 ghost use Rattle.serde_json.specs.View.{view, items_view};
 ghost use Rattle.dd_json.specs.Gives.{Gives};
-ghost use Rattle.dd_cert.specs.Forms.{each_of, link_in, name_in, role_in, link_of, name_of, role_of, local_of, one, format_at, kind_at, links_at, locals_at};
-ghost use Rattle.dd_cert.specs.Certificates.{world_form};
-ghost use Rattle.dd_cert.specs.Passes.{Finds, IsTold, size_at};
+ghost use Rattle.dd_cert.specs.Forms.{each_of, link_in, name_in, role_in, link_of, name_of, role_of, local_of, one, format_at, kind_named, members_of, kind_at, links_at, locals_at};
+ghost use Rattle.dd_cert.specs.Certificates.{cert_form, form_by, world_form};
+ghost use Rattle.dd_cert.specs.Steps.{Finds, IsTold, size_at};
 
-use crate::form::{LocalForm, WorldForm};
+use crate::form::{CertForm, Kind, LocalForm, WorldForm};
 use crate::read::CertErr;
 use dd_concept::Items;
 use dd_json::{ShapeErr, Text, count_of, list, number_in, text, text_in, wants_members};
 use serde_json::Value;
 use std::alloc::Global;
 
-/// The world as it is written in a certificate of kind `no`.
-#[tactic(auto, unfolding(crate::specs::Certificates::world_form))]
-pub fn world(alloc: Global, value: &Value) -> Result<WorldForm, CertErr>
-    ensures { Finds result (world_form (view value.now)) }
+/// The certificate as it is written.
+#[tactic(auto, unfolding(crate::specs::Certificates::cert_form))]
+pub fn cert_form(alloc: Global, value: &Value) -> Result<CertForm, CertErr>
+    ensures { Finds result (cert_form (view value.now)) }
 {
     if let Err(e) = format(value) {
         return Err(at_field(e, "format"));
     }
-    if let Err(e) = kind(alloc, value) {
-        return Err(at_field(e, "kind"));
+    match kind(alloc, value) {
+        Ok(kind) => form_by(alloc, kind, value),
+        Err(e) => Err(at_field(e, "kind")),
     }
+}
+
+fn form_by(alloc: Global, kind: Kind, value: &Value) -> Result<CertForm, CertErr>
+    ensures { Finds result (form_by kind (view value.now)) }
+{
+    match kind {
+        Kind::No => Ok(CertForm::No(world(alloc, value)?)),
+    }
+}
+
+/// The world as it is written in a certificate of kind `no`.
+#[tactic(auto, unfolding(crate::specs::Certificates::world_form))]
+fn world(alloc: Global, value: &Value) -> Result<WorldForm, CertErr>
+    ensures { Finds result (world_form (view value.now)) }
+{
     let links = match links_in(alloc, value) {
         Ok(links) => links,
         Err(e) => return Err(at_field(e, "links")),
@@ -58,17 +74,31 @@ fn wants_one(n: u64) -> Result<(), ShapeErr>
     if n == 1 { Ok(()) } else { Err(ShapeErr::Shape) }
 }
 
-fn kind(alloc: Global, value: &Value) -> Result<(), ShapeErr>
+#[tactic(auto, unfolding(crate::specs::Forms::kind_at))]
+fn kind(alloc: Global, value: &Value) -> Result<Kind, ShapeErr>
     ensures { Gives result (kind_at (view value.now)) }
 {
-    let kind = text(alloc, value, "kind")?;
-    if kind.as_slice() == b"no".as_slice() {
-        wants_members(
-            value,
-            2 + count_of(value, "links") + count_of(value, "locals"),
-        )
+    let name = text(alloc, value, "kind")?;
+    let kind = kind_named(name.as_slice())?;
+    wants_members(value, members_of(kind, value))?;
+    Ok(kind)
+}
+
+fn kind_named(name: &[u8]) -> Result<Kind, ShapeErr>
+    ensures { Gives result (kind_named name.now) }
+{
+    if name == b"no".as_slice() {
+        Ok(Kind::No)
     } else {
         Err(ShapeErr::Shape)
+    }
+}
+
+fn members_of(kind: Kind, value: &Value) -> usize
+    ensures { result ≡ members_of kind (view value.now) }
+{
+    match kind {
+        Kind::No => 2 + count_of(value, "links") + count_of(value, "locals"),
     }
 }
 

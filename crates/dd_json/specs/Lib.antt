@@ -1,2 +1,3 @@
 pub mod Members
 pub mod Gives
+pub mod InOrder

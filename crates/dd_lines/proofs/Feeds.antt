@@ -1,11 +1,11 @@
 -- Line feeds in lists of bytes: where the first one is, and how the lines follow from it.
-use Rattle.std.proofs.Common.{◌≡◌, ℕ, zero, suc, ◌+◌, ◌<◌, ◌||◌, ◌==◌, Bool, true, false, cond, Some, None, List, [], ◌∷◌, ◌++◌, length, take, drop, position, slice_get, if◌then◌else◌, refl, sym, ap, subst, ◌∙◌, arith, zero-add, add-one, eqb-true}
+use Rattle.std.proofs.Common.{◌≡◌, ℕ, zero, suc, ◌+◌, ◌<◌, ◌||◌, ◌⊎◌, ◌==◌, Bool, true, false, cond, Some, None, List, [], ◌∷◌, ◌++◌, length, take, drop, position, slice_get, if◌then◌else◌, refl, sym, ap, subst, ◌∙◌, arith, zero-add, add-one, eqb-true}
 use Rattle.std.specs.List.{position_from}
 use Rattle.std.proofs.lemmas.Iterator.Adapters.{position_from-zero}
 use Rattle.std.proofs.lemmas.List.{take-append-drop}
 use Rattle.std.proofs.lemmas.List.Folds.{list_any-append}
-use Rattle.dd_lines.specs.Lines.{onto, lines_of, has_feed}
-use Rattle.dd_lines.specs.Turn.{IsFeedAt}
+use Rattle.dd_lines.specs.Lines.{onto, lines_of, before, ended_lines, has_feed, IsCut}
+use Rattle.dd_lines.specs.Parts.{IsFeedAt}
 
 or_parts : (a b : Bool) → (a || b) ≡ false → (a ≡ false) × (b ≡ false)
 or_parts true b h = cc
@@ -89,6 +89,21 @@ lines_of-last (x ∷ y ∷ ys) h k =
     let parts = or_parts (x == 10) (has_feed (y ∷ ys)) h in
     let rest = lines_of (y ∷ ys) in
     ap (λ v. if v then [] ∷ rest else onto x rest) parts.0 ∙ ap (onto x) (lines_of-last (y ∷ ys) parts.1 (omega arith))
+
+-- the first line that a line feed ends, and the others
+pub ended_lines-feed : (xs ys : List ℕ) → has_feed xs ≡ false → ended_lines (xs ++ 10 ∷ ys) ≡ xs ∷ ended_lines ys
+ended_lines-feed [] ys h = refl
+ended_lines-feed (x ∷ xs) ys h =
+    let parts = or_parts (x == 10) (has_feed xs) h in
+    let rest = ended_lines (xs ++ 10 ∷ ys) in
+    ap (λ v. if v then [] ∷ rest else before x rest) parts.0 ∙ ap (before x) (ended_lines-feed xs ys parts.1)
+
+-- without a line feed no line is ended
+pub ended_lines-none : (xs : List ℕ) → has_feed xs ≡ false → ended_lines xs ≡ []
+ended_lines-none [] h = refl
+ended_lines-none (x ∷ xs) h =
+    let parts = or_parts (x == 10) (has_feed xs) h in
+    ap (λ v. if v then [] ∷ ended_lines xs else before x (ended_lines xs)) parts.0 ∙ ap (before x) (ended_lines-none xs parts.1)
 
 -- a line feed within the first bytes is among them
 pub feed_seen : (xs ys : List ℕ) (n : ℕ) → length xs < n → has_feed (take n (xs ++ 10 ∷ ys)) ≡ true

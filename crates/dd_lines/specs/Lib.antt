@@ -3,4 +3,4 @@ pub mod Memory
 pub mod Outside
 pub mod Reading
 pub mod NextLine
-pub mod Turn
+pub mod Parts

@@ -12,6 +12,12 @@ Takes None new n room = new ≡ None
 Takes (Some xs) None n room = ⊥
 Takes (Some xs) (Some ys) n room = (xs ≡ take n room ++ ys) × (n ≡ 0 → xs ≡ [])
 
+-- these bytes were taken from the front of what was left
+abbrev pub TakesFront : (old new : Option (List ℕ)) → (bytes : List ℕ) → Type 0
+TakesFront None new bytes = new ≡ None
+TakesFront (Some xs) None bytes = ⊥
+TakesFront (Some xs) (Some ys) bytes = xs ≡ bytes ++ ys
+
 -- these bytes were given behind what was given before. A sink that does not tell what was given still does not tell it.
 abbrev pub Gives : (old new : Option (List ℕ)) → (bytes : List ℕ) → Type 0
 Gives None new bytes = new ≡ None

@@ -1,4 +1,6 @@
-ghost use Rattle.std.specs.Prelude.{◌≡◌, ◌<◌, ◌≤◌, Option, Some, [], drop, vec_len, vec_capacity, IfOk};
+ghost use Rattle.std.specs.Prelude.{◌≡◌, ◌<◌, ◌≤◌, ◌⊎◌, true, false, Option, Some, [], take, length, IfOk, IsTrue, OnErr};
+ghost use Rattle.dd_lines.specs.Memory.{is_failing, Feeds, FeedFails, Accepts, Rejects};
+ghost use Rattle.dd_lines.specs.Outside.{Rose, Takes, Gives};
 
 use crate::outside::{Failed, Sink, Source};
 use std::alloc::{AllocError, Global};
@@ -13,8 +15,17 @@ pub struct MemSource {
     fails: Vec<u64>,
     calls: u64,
     faults: u64,
-    ghost within: { at ≤ vec_len bytes },
-    ghost some: { 0 < piece },
+}
+
+impl Model for MemSource {
+    ghost use Rattle.std.specs.Prelude.{◌<◌, ◌≤◌, drop, vec_len};
+    ghost use Rattle.dd_lines.specs.Memory.{Feeding};
+
+    ghost Value = { Feeding };
+
+    ghost view = { λ s. record { left = drop s.at s.bytes.items; piece = s.piece; fails = s.fails.items; calls = s.calls; faults = s.faults } };
+
+    ghost invariant = { λ s. record { within : s.at ≤ vec_len s.bytes; some : 0 < s.piece } };
 }
 
 impl MemSource {
@@ -22,8 +33,7 @@ impl MemSource {
     /// among `fails`.
     pub fn new(bytes: Vec<u8>, piece: usize, fails: Vec<u64>) -> MemSource
         requires { 1 ≤ piece }
-        ensures left { ⟦<MemSource as Source>⟧.left result ≡ Some bytes.items }
-        ensures faults { ⟦<MemSource as Source>⟧.fault_count result ≡ 0 }
+        ensures { result ≡ record { left = bytes.items; piece = piece; fails = fails.items; calls = 0; faults = 0 } }
     {
         MemSource {
             bytes,
@@ -37,11 +47,21 @@ impl MemSource {
 }
 
 impl Source for MemSource {
-    ghost left = { λ s. Some (drop s.at s.bytes.items) };
+    ghost left = { λ s. Some s.left };
 
     ghost fault_count = { λ s. s.faults };
 
-    fn take(&mut self, room: &mut [u8]) -> Result<usize, Failed> {
+    /// It fails exactly where its number is among those that fail.
+    fn take(&mut self, room: &mut [u8]) -> Result<usize, Failed>
+        requires { 0 < length room.old }
+        ensures bound { IfOk result (λ n. n ≤ length room.new) }
+        ensures bytes { IfOk result (λ n. Takes (Some self.old.left) (Some self.new.left) n room.new) }
+        ensures same { OnErr result (Some self.new.left ≡ Some self.old.left) }
+        ensures failed { OnErr result (Rose self.old.faults self.new.faults) }
+        ensures counts { self.old.faults ≤ self.new.faults }
+        ensures feeds { IfOk result (Feeds self.old self.new (length room.old)) }
+        ensures fails { OnErr result (FeedFails self.old self.new) }
+    {
         let call = self.calls;
         self.calls = call.saturating_add(1);
         if self.fails.as_slice().contains(&call) {
@@ -77,7 +97,7 @@ impl Model for MemSink {
 
     ghost Value = { Filling };
 
-    ghost view = { λ k. record { bytes = k.bytes.items; capacity = k.capacity; faults = k.faults } };
+    ghost view = { λ k. record { bytes = k.bytes.items; capacity = k.capacity; piece = k.piece; fails = k.fails.items; calls = k.calls; faults = k.faults } };
 
     ghost invariant = { λ k. record { within : vec_len k.bytes ≤ k.capacity; reserved : k.capacity ≤ vec_capacity k.bytes; some : 0 < k.piece } };
 }
@@ -92,9 +112,7 @@ impl MemSink {
         fails: Vec<u64>,
     ) -> Result<MemSink, AllocError>
         requires { 1 ≤ piece }
-        ensures given { IfOk result (λ k. ⟦<MemSink as Sink>⟧.given k ≡ Some []) }
-        ensures faults { IfOk result (λ k. ⟦<MemSink as Sink>⟧.fault_count k ≡ 0) }
-        ensures capacity { IfOk result (λ k. k.capacity ≡ capacity) }
+        ensures { IfOk result (λ k. k ≡ record { bytes = []; capacity = capacity; piece = piece; fails = fails.items; calls = 0; faults = 0 }) }
     {
         let bytes = Vec::with_capacity(alloc, capacity)?;
         Ok(MemSink {
@@ -109,7 +127,7 @@ impl MemSink {
 
     /// What was given so far.
     pub fn bytes(&self) -> &[u8]
-        ensures { ⟦<MemSink as Sink>⟧.given self.now ≡ Some result.now }
+        ensures { result.now ≡ self.now.bytes }
     {
         self.bytes.as_slice()
     }
@@ -120,11 +138,22 @@ impl Sink for MemSink {
 
     ghost fault_count = { λ s. s.faults };
 
-    fn give(&mut self, piece: &[u8]) -> Result<usize, Failed> {
+    /// It fails exactly where its number is among those that fail, or the capacity is used up.
+    fn give(&mut self, piece: &[u8]) -> Result<usize, Failed>
+        requires { 0 < length piece.now }
+        ensures some { IfOk result (λ n. 0 < n) }
+        ensures bound { IfOk result (λ n. n ≤ length piece.now) }
+        ensures bytes { IfOk result (λ n. Gives (Some self.old.bytes) (Some self.new.bytes) (take n piece.now)) }
+        ensures same { OnErr result (Some self.new.bytes ≡ Some self.old.bytes) }
+        ensures failed { OnErr result (Rose self.old.faults self.new.faults) }
+        ensures counts { self.old.faults ≤ self.new.faults }
+        ensures accepts { IfOk result (Accepts self.old self.new piece.now) }
+        ensures rejects { OnErr result (Rejects self.old self.new) }
+    {
         let call = self.calls;
         self.calls = call.saturating_add(1);
         let space = self.capacity - self.bytes.len();
-        if space == 0 || self.fails.as_slice().contains(&call) {
+        if is_refused(space, self.fails.as_slice(), call) {
             self.faults = self.faults.saturating_add(1);
             return Err(Failed);
         }
@@ -138,4 +167,12 @@ impl Sink for MemSink {
     fn faults(&self) -> u64 {
         self.faults
     }
+}
+
+/// Whether a sink with this space refuses the call with this number.
+fn is_refused(space: usize, fails: &[u64], call: u64) -> bool
+    ensures refused { IsTrue result → (is_failing fails.now call ≡ true) ⊎ (space ≡ 0) }
+    ensures taken { result ≡ false → (is_failing fails.now call ≡ false) × (0 < space) }
+{
+    space == 0 || fails.contains(&call)
 }

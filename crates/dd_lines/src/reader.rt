@@ -1,9 +1,9 @@
 ghost use Rattle.std.specs.Prelude.{◌≡◌, ℕ, ◌+◌, ◌-◌, ◌<◌, ◌≤◌, ◌++◌, ◌⊎◌, true, false, Some, None, List, [], ◌==◌, position, length, take, drop, MatchOption, IfOk, IfErr, IfSome, IsTrue, ◌↔◌, OnOk, OnErr};
 ghost use Rattle.dd_lines.specs.Lines.{has_feed};
-ghost use Rattle.dd_lines.specs.NextLine.{KeepsLimits, Next, Over, Uses, Stops, Spells, IsGoing};
+ghost use Rattle.dd_lines.specs.NextLine.{KeepsLimits, Next, Over, Uses, Stops, StandsFor, IsGoing};
 ghost use Rattle.dd_lines.specs.Outside.{Rose, Takes};
 ghost use Rattle.dd_lines.specs.Reading.{room, ahead};
-ghost use Rattle.dd_lines.specs.Turn.{Fills, Gathers, HandsOn, HandsLast, Answers, CanGoOn, IsFeedAt};
+ghost use Rattle.dd_lines.specs.Parts.{Fills, Gathers, HandsOn, HandsLast, IsAnswer, CanGoOn, IsFeedAt};
 
 use crate::outside::{Failed, Source};
 use std::alloc::{AllocError, Global};
@@ -150,7 +150,7 @@ impl LineReader {
     /// The next line, where neither too much nor a fault was met before.
     fn read_line<S: Source>(&mut self, alloc: Global, source: &mut S) -> Result<LineStep, ReadErr>
         requires { CanGoOn self.old }
-        ensures answer { IfOk result (λ step. Answers step self.old.max_line (ahead self.old (S.left source.old)) (ahead self.new (S.left source.new)) (room self.old) (room self.new)) }
+        ensures answer { IfOk result (λ step. IsAnswer step self.old.max_line (ahead self.old (S.left source.old)) (ahead self.new (S.left source.new)) (room self.old) (room self.new)) }
         ensures going { OnOk result (IsGoing self.new) }
         ensures stops { IfErr result (λ e. Stops e self.old (S.left source.old) self.new (S.left source.new) (S.fault_count source.old) (S.fault_count source.new)) }
         ensures limits { KeepsLimits self.old self.new }
@@ -194,10 +194,9 @@ impl LineReader {
         requires can { CanGoOn self.old }
         requires no_feed { has_feed self.old.held ≡ false }
         requires long { self.old.max_line < length self.old.held }
-        ensures answer { IfOk result (λ step. Answers step self.old.max_line (ahead self.old (S.left source.old)) (ahead self.new (S.left source.new)) (room self.old) (room self.new)) }
+        ensures answer { IfOk result (λ step. IsAnswer step self.old.max_line (ahead self.old (S.left source.old)) (ahead self.new (S.left source.new)) (room self.old) (room self.new)) }
         ensures going { OnOk result (IsGoing self.new) }
         ensures stops { IfErr result (λ e. Stops e self.old (S.left source.old) self.new (S.left source.new) (S.fault_count source.old) (S.fault_count source.new)) }
-        ensures grows { self.old.taken ≤ self.new.taken }
         ensures limits { KeepsLimits self.old self.new }
         ensures counts { S.fault_count source.old ≤ S.fault_count source.new }
     {
@@ -248,7 +247,7 @@ impl LineReader {
     /// The line of the first bytes that are held.
     fn line(&self, alloc: Global, size: usize) -> Result<LineStep, AllocError>
         requires { size ≤ length self.now.held }
-        ensures { IfOk result (λ step. Spells self.now.max_line step (take size self.now.held)) }
+        ensures { IfOk result (λ step. StandsFor self.now.max_line step (take size self.now.held)) }
     {
         if size > self.max_line {
             return Ok(LineStep::TooLong);

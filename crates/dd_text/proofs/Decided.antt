@@ -11,7 +11,7 @@ use Rattle.dd_text.specs.declared.grammar.Scan.{Scan}
 use Rattle.dd_text.specs.Automaton.{is_whole, reach, start}
 use Rattle.dd_text.specs.Parts.{axiom_head}
 use Rattle.dd_text.proofs.AxiomReads.{axiom-split, sides_of, split-unique}
-use Rattle.dd_text.proofs.Verdicts.{IsTermOf, Reached, Seen-start, reach-whole, reached, whole-term, whole_state}
+use Rattle.dd_text.proofs.Verdicts.{IsTermOf, ScanReached, Seen-start, reach-whole, reached, whole-term, whole_state}
 
 -- a concept, a byte that ends it, and what is left
 pub record IsLed (end : ℕ) (text : List ℕ) : Type 0 where
@@ -21,7 +21,7 @@ pub record IsLed (end : ℕ) (text : List ℕ) : Type 0 where
   pub text_is : text ≡ term_text term ++ end ∷ rest
 
 module _ (text : List ℕ) where
-  way : Reached start text []
+  way : ScanReached start text []
   way = reached text start [] Seen-start
 
   -- what was read is a concept

@@ -9,14 +9,14 @@ use Rattle.dd_text.specs.declared.grammar.Scan.{Scan}
 use Rattle.dd_text.specs.declared.grammar.Scanned.{Scanned}
 use Rattle.dd_text.specs.Automaton.{Scans, is_whole, reach, start}
 use Rattle.dd_text.specs.Parts.{IsPartOf, IsBefore, Leaves, IsWholeConcept}
-use Rattle.dd_text.proofs.Verdicts.{Reached, reached, Seen-start, seen-begins, IsTermOf, whole-term, whole_state, reach-whole, bad-at}
+use Rattle.dd_text.proofs.Verdicts.{ScanReached, reached, Seen-start, seen-begins, IsTermOf, whole-term, whole_state, reach-whole, bad-at}
 
 pub not_false : (b : Bool) → not b ≡ false → b ≡ true
 not_false true h = refl
 not_false false h = sym h
 
 module _ (text : List ℕ) (r : Scanned) (h : Scans text r) where
-  way : Reached start text []
+  way : ScanReached start text []
   way = reached text start [] Seen-start
 
   way-length : length way.read ≡ r.read

@@ -176,19 +176,19 @@ reach-Done : (fs : List Frame) (sg sg' : List Sign) (d d' : ℕ) (rest : List �
 reach-Done fs sg sg' d d' rest es ed = ap (λ l. reach (state mode.Done [] fs l d) rest) es ∙ ap (λ n. reach (state mode.Done [] fs sg' n) rest) ed
 
 -- what a term adds where it stands
-abbrev pub Reads : Term → Type 0
-Reads t = (fs : List Frame) (sg : List Sign) (d : ℕ) (rest : List ℕ) → EndsWord rest
+abbrev pub ReadsTerm : Term → Type 0
+ReadsTerm t = (fs : List Frame) (sg : List Sign) (d : ℕ) (rest : List ℕ) → EndsWord rest
     → reach (state mode.Concept [] fs sg d) (term_text t ++ rest) ≡ reach (state mode.Done [] fs (sg ++ signs_of t) (max d (length fs + term_depth t))) rest
 
 -- the last part of a form, and its bracket
-reach-last : (c : Term) → Reads c → (fs : List Frame) (sg : List Sign) (d : ℕ) (rest : List ℕ)
+reach-last : (c : Term) → ReadsTerm c → (fs : List Frame) (sg : List Sign) (d : ℕ) (rest : List ℕ)
     → reach (state mode.Concept [] (frame.Last ∷ fs) sg d) ((term_text c ++ 41 ∷ []) ++ rest) ≡ reach (state mode.Done [] fs (sg ++ signs_of c) (max d (suc (length fs) + term_depth c))) rest
 reach-last c reads fs sg d rest =
     ap (reach (state mode.Concept [] (frame.Last ∷ fs) sg d)) (append_assoc (term_text c) (41 ∷ []) rest)
     ∙ reads (frame.Last ∷ fs) sg d (41 ∷ rest) refl
 
 -- two parts of a form
-reach-parts : (c e : Term) → Reads c → Reads e → (fs : List Frame) (sg : List Sign) (d : ℕ) (rest : List ℕ)
+reach-parts : (c e : Term) → ReadsTerm c → ReadsTerm e → (fs : List Frame) (sg : List Sign) (d : ℕ) (rest : List ℕ)
     → reach (state mode.Concept [] (frame.First ∷ fs) sg d) ((spaced (term_text c) (term_text e) ++ 41 ∷ []) ++ rest) ≡ reach (state mode.Done [] fs ((sg ++ signs_of c) ++ signs_of e) (max (max d (suc (length fs) + term_depth c)) (suc (length fs) + term_depth e))) rest
 reach-parts c e reads_c reads_e fs sg d rest =
     ap (reach (state mode.Concept [] (frame.First ∷ fs) sg d)) (ap (λ l. l ++ rest) (append_assoc (term_text c) (32 ∷ term_text e) (41 ∷ [])) ∙ append_assoc (term_text c) (32 ∷ (term_text e ++ 41 ∷ [])) rest)
@@ -196,14 +196,14 @@ reach-parts c e reads_c reads_e fs sg d rest =
     ∙ reach-last e reads_e fs (sg ++ signs_of c) (max d (suc (length fs) + term_depth c)) rest
 
 -- a role and the last part of a form
-reach-SomeRole-last : (r : List ℕ) (c : Term) → names_a_thing r ≡ true → Reads c → (fs : List Frame) (sg : List Sign) (d : ℕ) (rest : List ℕ)
+reach-SomeRole-last : (r : List ℕ) (c : Term) → names_a_thing r ≡ true → ReadsTerm c → (fs : List Frame) (sg : List Sign) (d : ℕ) (rest : List ℕ)
     → reach (state mode.SomeRole [] fs sg d) ((spaced r (term_text c) ++ 41 ∷ []) ++ rest) ≡ reach (state mode.Done [] fs ((sg ++ sign.HasSome r ∷ []) ++ signs_of c) (max d (suc (length fs) + term_depth c))) rest
 reach-SomeRole-last r c named reads fs sg d rest =
     ap (reach (state mode.SomeRole [] fs sg d)) (ap (λ l. l ++ rest) (append_assoc r (32 ∷ term_text c) (41 ∷ [])) ∙ append_assoc r (32 ∷ (term_text c ++ 41 ∷ [])) rest)
     ∙ reach-SomeRole r fs sg d ((term_text c ++ 41 ∷ []) ++ rest) named
     ∙ reach-last c reads fs (sg ++ sign.HasSome r ∷ []) d rest
 
-reach-AllRole-last : (r : List ℕ) (c : Term) → names_a_thing r ≡ true → Reads c → (fs : List Frame) (sg : List Sign) (d : ℕ) (rest : List ℕ)
+reach-AllRole-last : (r : List ℕ) (c : Term) → names_a_thing r ≡ true → ReadsTerm c → (fs : List Frame) (sg : List Sign) (d : ℕ) (rest : List ℕ)
     → reach (state mode.AllRole [] fs sg d) ((spaced r (term_text c) ++ 41 ∷ []) ++ rest) ≡ reach (state mode.Done [] fs ((sg ++ sign.HasAll r ∷ []) ++ signs_of c) (max d (suc (length fs) + term_depth c))) rest
 reach-AllRole-last r c named reads fs sg d rest =
     ap (reach (state mode.AllRole [] fs sg d)) (ap (λ l. l ++ rest) (append_assoc r (32 ∷ term_text c) (41 ∷ [])) ∙ append_assoc r (32 ∷ (term_text c ++ 41 ∷ [])) rest)
@@ -217,7 +217,7 @@ depth_two : (d n k m : ℕ) → max (max d (suc n + k)) (suc n + m) ≡ max d (n
 depth_two d n k m = omega arith
 
 -- the automaton reads each written term
-pub reach-term : (t : Term) → is_written t ≡ true → Reads t
+pub reach-term : (t : Term) → is_written t ≡ true → ReadsTerm t
 reach-term top h fs sg d rest ends = reach-leaf (codes "top") fs sg d rest (record { letter = refl; bytes = refl; short = omega arith }) refl ends
 reach-term bottom h fs sg d rest ends = reach-leaf (codes "bottom") fs sg d rest (record { letter = refl; bytes = refl; short = omega arith }) refl ends
 reach-term (atomic a) h fs sg d rest ends =

@@ -16,13 +16,13 @@ use Rattle.dd_text.proofs.Contexts.{Form, frame_of, before, viable, completes}
 use Rattle.dd_text.proofs.Seen.{Seen, seen-step, seen-finished}
 
 -- how far the automaton came from a state, and that the byte after that is what stopped it
-pub record Reached (s : Scan) (text front : List ℕ) : Type 0 where
+pub record ScanReached (s : Scan) (text front : List ℕ) : Type 0 where
   pub read : List ℕ
   pub text_is : text ≡ read ++ (reach s text).1
   pub seen : Seen (reach s text).0 (front ++ read)
   pub stuck : (b : ℕ) (bs more : List ℕ) → (reach s text).1 ≡ b ∷ bs → reach s (read ++ b ∷ more) ≡ ((reach s text).0, b ∷ more)
 
-pub reached : (text : List ℕ) (s : Scan) (front : List ℕ) → Seen s front → Reached s text front
+pub reached : (text : List ℕ) (s : Scan) (front : List ℕ) → Seen s front → ScanReached s text front
 reached [] s front h = record {
   read = [];
   text_is = refl;
@@ -30,7 +30,7 @@ reached [] s front h = record {
   stuck = λ b bs more e. cc;
 }
 reached (b ∷ bs) s front h =
-    (elim (step s b) as (λ o. step s b ≡ o → Reached s (b ∷ bs) front) [
+    (elim (step s b) as (λ o. step s b ≡ o → ScanReached s (b ∷ bs) front) [
       | None ↦ λ e.
           let at = reach-none s b bs e in
           record {

@@ -1,4 +1,4 @@
--- The automaton with a stack that reads the text of a concept byte by byte. It stops at the first byte with which no text
+-- For private clauses: the automaton with a stack that reads the text of a concept byte by byte. It stops at the first byte with which no text
 -- of the grammar goes on, and writes down the signs of the nodes that it passes, in the order of the text.
 use Rattle.std.specs.Prelude.{◌≡◌, ℕ, ◌+◌, ◌≤◌, ◌==◌, Bool, true, false, ◌&&◌, ◌||◌, nat_lt, nat_eq, slice_index, List, [], ◌∷◌, ◌++◌, length, drop, max, codes, if◌then◌else◌, Option, Some, None}
 use Rattle.std.specs.List.{list_any, starts_with}

@@ -1,4 +1,4 @@
--- How a concept is put together from its nodes in the order of the text, from the last one back.
+-- For private clauses: how a concept is put together from its nodes in the order of the text, from the last one back.
 use Rattle.std.specs.Prelude.{◌≡◌, Bool, true, List, [], ◌∷◌, IsTrue}
 use Rattle.dd_concept.specs.declared.concept.Concept.{Concept}
 use Rattle.dd_concept.specs.declared.concept.Concept.TheVariants as concept

@@ -1,4 +1,4 @@
--- What the reader tests of the sides of an axiom before it builds them, and what it says where building fails. What is
+-- For private clauses: what the reader tests of the sides of an axiom before it builds them, and what it says where building fails. What is
 -- said of a text, by its terms, stands in Reads.
 use Rattle.std.specs.Prelude.{◌≡◌, ℕ, ◌≤◌, length}
 use Rattle.dd_text.specs.Reads.{IsFirstOver, told}

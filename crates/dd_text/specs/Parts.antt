@@ -1,4 +1,4 @@
--- What the reader of the grammar tells of a whole text, of its concepts, and of the place where it leaves the grammar.
+-- For private clauses: what the reader of the grammar tells of a whole text, of its concepts, and of the place where it leaves the grammar.
 use Rattle.std.specs.Prelude.{◌≡◌, ℕ, ◌+◌, List, ◌∷◌, ◌++◌, drop, length, codes, IsTrue}
 use Rattle.dd_text.specs.Grammar.{Term, term_text, is_written, Begins, IsBadAt, IsConceptText, Spells, SpellsAxiom}
 use Rattle.dd_text.specs.Automaton.{signs_of}

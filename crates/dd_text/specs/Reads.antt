@@ -3,6 +3,7 @@ use Rattle.std.specs.Prelude.{◌≡◌, ℕ, ◌<◌, ◌≤◌, ◌⊎◌, Lis
 use Rattle.dd_concept.specs.declared.concept.Concept.{Concept}
 use Rattle.dd_concept.specs.declared.concept.Axiom.{Axiom}
 use Rattle.dd_concept.specs.Counts.{depth_of, node_count}
+use Rattle.dd_concept.specs.Sizes.{most_nodes, most_depth, most_normal_nodes, most_normal_depth}
 use Rattle.dd_text.specs.Symbols.{SymbolLists, most_symbols, symbol_count}
 use Rattle.dd_text.specs.Grammar.{Term, IsAxiomText, IsBadAt, IsConceptText, Spells, SpellsAxiom, term_depth, term_nodes}
 use Rattle.dd_text.specs.Text.{axiom_of, concept_of, with_term}
@@ -13,6 +14,13 @@ use Rattle.dd_text.specs.declared.read.TextErr.TheVariants as err
 -- how a number is told: as it is, or as the largest that is told
 abbrev pub told : ℕ → ℕ
 told n = min n 4294967295
+
+-- the limits of a concept in a request, and in a certificate
+abbrev pub request_limits : Limits
+request_limits = record { nodes = most_nodes; depth = most_depth }
+
+abbrev pub cert_limits : Limits
+cert_limits = record { nodes = most_normal_nodes; depth = most_normal_depth }
 
 -- the term is within the limits
 pub record IsWithin (limits : Limits) (t : Term) : Type 0 where

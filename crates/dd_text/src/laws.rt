@@ -1,3 +1,6 @@
+ghost use Rattle.std.specs.Prelude.{◌≡◌};
+ghost use Rattle.dd_text.specs.Reads.{cert_limits, request_limits};
+ghost use Rattle.dd_text.specs.declared.read.TheConstants.{CERT, REQUEST};
 ghost use Rattle.dd_text.specs.Laws.{AxiomTextsAreUnique, ConceptTextsAreUnique, PrintedAxiomsRead, PrintedConceptsRead, ReadAxiomsPrint, ReadConceptsPrint};
 
 /// A text is that of at most one concept, or of at most one axiom.
@@ -17,4 +20,10 @@ pub fn printed_texts_read()
 pub fn read_texts_print()
     ensures concepts { ReadConceptsPrint }
     ensures axioms { ReadAxiomsPrint }
+{}
+
+/// The two limits are those of the definitions: 1,000 nodes and depth 64, and twice the nodes and one level more.
+pub fn limits_are_defined()
+    ensures request { REQUEST ≡ request_limits }
+    ensures cert { CERT ≡ cert_limits }
 {}

@@ -16,7 +16,7 @@ mod read;
 mod symbols;
 
 pub use dd_concept::NoMemory;
-pub use laws::{printed_texts_read, read_texts_print, texts_are_unique};
+pub use laws::{limits_are_defined, printed_texts_read, read_texts_print, texts_are_unique};
 pub use names::is_name;
 pub use print::{print_axiom, print_concept};
 pub use read::{CERT, Limits, REQUEST, TextErr, read_axiom, read_concept};

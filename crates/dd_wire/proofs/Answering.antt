@@ -24,7 +24,7 @@ use Rattle.dd_wire.specs.Forms as form
 use Rattle.dd_wire.specs.Placed.{are_peers, at_peer, placed}
 use Rattle.dd_wire.specs.Refusal.{Refusal, Tested, ◌>>=◌, demand, demand_none, refused_at, refused, bad_concept, concept_limit, symbols_full, bad_peers, no_peers, peers_twice}
 use Rattle.dd_wire.specs.Texts.{concept, implication, pieces_of, rule_pieces, IsFirstOutside, RuleTree, Parsed, peers, put, ask, check, versions, Each, Parses, sides_of, rule_trees, trees_of, first_large, with_texts, has_room, Parse, parsed, outside, IsParse, Resolved, sized_texts}
-use Rattle.dd_wire.specs.Requests.{rule_of_trees, AfterPlace, Tests, Reads, IsNumbered, declared_names}
+use Rattle.dd_wire.specs.Requests.{rule_of_trees, AfterPlace, Tests, ReadsRequest, IsNumberedRequest, declared_names}
 use Rattle.dd_wire.specs.Progress.{Progress, progress, no_texts, after_text, after_texts, IsSound, Leads, IsAxiomAfter, IsRuleAfter, Stops, ReadsText, ReadsAxioms, ReadsRules, finished, passed_on, size_test, IsPeer, IsFound, ReadsOn, ReadsQuery, asked, checked}
 use Rattle.dd_wire.proofs.Pieces.{Each-implies, Each-length, Each-map, pieces_of_axioms, pieces_of_rules}
 use Rattle.dd_wire.proofs.Tallies.{Leads-refl, Leads-trans, after_texts-append, not_passed, passed, texts_after_all}
@@ -329,7 +329,7 @@ module _ (names : Option (List (List ℕ))) (s : SymbolLists) where
 
 -- ---- the symbols after a refusal
 
-pub Reads-from_ReadsOn : (Finds : Tested Resolved → Type 0) (names : List (List ℕ)) (old new : SymbolLists) (r : Request) → ReadsOn Finds names old new (Ok r) → Reads Finds names old new (Ok r)
+pub Reads-from_ReadsOn : (Finds : Tested Resolved → Type 0) (names : List (List ℕ)) (old new : SymbolLists) (r : Request) → ReadsOn Finds names old new (Ok r) → ReadsRequest Finds names old new (Ok r)
 unfolding ReadsOn
 Reads-from_ReadsOn Finds names old new r h = h
 
@@ -337,7 +337,7 @@ pub grown : (Finds : Tested Resolved → Type 0) (names : List (List ℕ)) (old 
 unfolding ReadsOn
 grown Finds names old new e h = h.0
 
-pub Reads-refusal : (Finds : Tested Resolved → Type 0) (names : List (List ℕ)) (old new cut : SymbolLists) (e : WireErr) → ReadsOn Finds names old new (Err e) → cut ≡ old → Reads Finds names old cut (Err e)
+pub Reads-refusal : (Finds : Tested Resolved → Type 0) (names : List (List ℕ)) (old new cut : SymbolLists) (e : WireErr) → ReadsOn Finds names old new (Err e) → cut ≡ old → ReadsRequest Finds names old cut (Err e)
 unfolding ReadsOn
 Reads-refusal Finds names old new cut (Code code n) h same = (same, h.1)
 Reads-refusal Finds names old new cut NoMemory h same = same
@@ -368,13 +368,13 @@ check_answers names s new peer left right pin cert (Err e) w r is answer h =
     (subst (ReadsOn (Tests names s (form.check peer left right pin (view cert))) (declared_names names) s new) (sym answer) (check_refused names s peer left right new pin cert e h))
 
 -- a query's request has no lists that are numbered
-pub ask_numbered : (q : Result Query WireErr) (x v : Option ℕ) (r : Result Request WireErr) → r ≡ asked q x v → IfOk r IsNumbered
-ask_numbered (Ok q) x v r is = subst (λ z. IfOk z IsNumbered) (sym is) tt
-ask_numbered (Err e) x v r is = subst (λ z. IfOk z IsNumbered) (sym is) tt
+pub ask_numbered : (q : Result Query WireErr) (x v : Option ℕ) (r : Result Request WireErr) → r ≡ asked q x v → IfOk r IsNumberedRequest
+ask_numbered (Ok q) x v r is = subst (λ z. IfOk z IsNumberedRequest) (sym is) tt
+ask_numbered (Err e) x v r is = subst (λ z. IfOk z IsNumberedRequest) (sym is) tt
 
-pub check_numbered : (q : Result Query WireErr) (pin : List ℕ) (cert : Value) (r : Result Request WireErr) → r ≡ checked q pin cert → IfOk r IsNumbered
-check_numbered (Ok q) pin cert r is = subst (λ z. IfOk z IsNumbered) (sym is) tt
-check_numbered (Err e) pin cert r is = subst (λ z. IfOk z IsNumbered) (sym is) tt
+pub check_numbered : (q : Result Query WireErr) (pin : List ℕ) (cert : Value) (r : Result Request WireErr) → r ≡ checked q pin cert → IfOk r IsNumberedRequest
+check_numbered (Ok q) pin cert r is = subst (λ z. IfOk z IsNumberedRequest) (sym is) tt
+check_numbered (Err e) pin cert r is = subst (λ z. IfOk z IsNumberedRequest) (sym is) tt
 
 -- what is read of a form is read of what it says
 pub of_form : (names : Option (List (List ℕ))) (s new : SymbolLists) (w said : Written) (r : Result Request WireErr) → said ≡ w → ReadsOn (Tests names s w) (declared_names names) s new r → ReadsOn (Tests names s said) (declared_names names) s new r

@@ -42,17 +42,17 @@ stops_behind old mid new xs ys trees NoMemory each is h = record { grows = Grows
 
 -- ---- what a reader of a list does, by its parts
 
-pub record Joins (I V : Type 0) (Reads : Progress → List I → Progress → Result (List V) WireErr → Type 0) : Type 0 where
-  pub nothing : (p : Progress) → Reads p [] p (Ok [])
-  pub joins : (old mid new : Progress) (xs ys : List I) (vs : List V) (r : Result (List V) WireErr) → Reads old xs mid (Ok vs) → Reads mid ys new r → Reads old (xs ++ ys) new (behind vs r)
-  pub fails : (old new : Progress) (xs ys : List I) (e : WireErr) → Reads old xs new (Err e) → Reads old (xs ++ ys) new (Err e)
-  pub breaks : (old new : Progress) (xs ys : List I) (vs : List V) → Reads old xs new (Ok vs) → Reads old ys new (Err NoMemory)
+pub record Joins (I V : Type 0) (ReadsRequest : Progress → List I → Progress → Result (List V) WireErr → Type 0) : Type 0 where
+  pub nothing : (p : Progress) → ReadsRequest p [] p (Ok [])
+  pub joins : (old mid new : Progress) (xs ys : List I) (vs : List V) (r : Result (List V) WireErr) → ReadsRequest old xs mid (Ok vs) → ReadsRequest mid ys new r → ReadsRequest old (xs ++ ys) new (behind vs r)
+  pub fails : (old new : Progress) (xs ys : List I) (e : WireErr) → ReadsRequest old xs new (Err e) → ReadsRequest old (xs ++ ys) new (Err e)
+  pub breaks : (old new : Progress) (xs ys : List I) (vs : List V) → ReadsRequest old xs new (Ok vs) → ReadsRequest old ys new (Err NoMemory)
 
 -- whatever may be read of the rest completes what was read
-abbrev pub Reaches : (I V : Type 0) (Reads : Progress → List I → Progress → Result (List V) WireErr → Type 0) → Progress → List I → Progress → ℕ → List V → Type 0
-Reaches I V Reads start items here i found = (new : Progress) (r : Result (List V) WireErr) → Reads here (drop i items) new r → Reads start items new (behind found r)
+abbrev pub Reaches : (I V : Type 0) (ReadsRequest : Progress → List I → Progress → Result (List V) WireErr → Type 0) → Progress → List I → Progress → ℕ → List V → Type 0
+Reaches I V ReadsRequest start items here i found = (new : Progress) (r : Result (List V) WireErr) → ReadsRequest here (drop i items) new r → ReadsRequest start items new (behind found r)
 
-module _ (I V : Type 0) (Reads : Progress → List I → Progress → Result (List V) WireErr → Type 0) (k : Joins I V Reads) where
+module _ (I V : Type 0) (ReadsRequest : Progress → List I → Progress → Result (List V) WireErr → Type 0) (k : Joins I V ReadsRequest) where
   behind-nil : (r : Result (List V) WireErr) → behind [] r ≡ r
   behind-nil (Ok vs) = refl
   behind-nil (Err e) = refl
@@ -61,29 +61,29 @@ module _ (I V : Type 0) (Reads : Progress → List I → Progress → Result (Li
   behind-behind xs ys (Ok vs) = ap Ok (append_assoc xs ys vs)
   behind-behind xs ys (Err e) = refl
 
-  pub reaches_start : (start : Progress) (items : List I) → Reaches I V Reads start items start 0 []
-  reaches_start start items new r h = subst (Reads start items new) (sym (behind-nil r)) h
+  pub reaches_start : (start : Progress) (items : List I) → Reaches I V ReadsRequest start items start 0 []
+  reaches_start start items new r h = subst (ReadsRequest start items new) (sym (behind-nil r)) h
 
   pub reaches_next : (start here next : Progress) (items : List I) (i : ℕ) (x : I) (v : V) (found found' : List V) → i < length items → x ≡ get_or items i x
-      → Reaches I V Reads start items here i found → Reads here (x ∷ []) next (Ok (v ∷ [])) → found' ≡ found ++ v ∷ [] → Reaches I V Reads start items next (i + 1) found'
+      → Reaches I V ReadsRequest start items here i found → ReadsRequest here (x ∷ []) next (Ok (v ∷ [])) → found' ≡ found ++ v ∷ [] → Reaches I V ReadsRequest start items next (i + 1) found'
   reaches_next start here next items i x v found found' short is reach read more new r h =
-      let whole : Reads here (drop i items) new (behind (v ∷ []) r) =
-      subst (λ l. Reads here l new (behind (v ∷ []) r)) (sym (drop-next items i x short is)) (k.joins here next new (x ∷ []) (drop (i + 1) items) (v ∷ []) r read h) in
-      subst (Reads start items new) (sym (behind-behind found (v ∷ []) r) ∙ ap (λ l. behind l r) (sym more)) (reach new (behind (v ∷ []) r) whole)
+      let whole : ReadsRequest here (drop i items) new (behind (v ∷ []) r) =
+      subst (λ l. ReadsRequest here l new (behind (v ∷ []) r)) (sym (drop-next items i x short is)) (k.joins here next new (x ∷ []) (drop (i + 1) items) (v ∷ []) r read h) in
+      subst (ReadsRequest start items new) (sym (behind-behind found (v ∷ []) r) ∙ ap (λ l. behind l r) (sym more)) (reach new (behind (v ∷ []) r) whole)
 
   pub reaches_failure : (start here new : Progress) (items : List I) (i : ℕ) (x : I) (found : List V) (e : WireErr) → i < length items → x ≡ get_or items i x
-      → Reaches I V Reads start items here i found → Reads here (x ∷ []) new (Err e) → Reads start items new (Err e)
+      → Reaches I V ReadsRequest start items here i found → ReadsRequest here (x ∷ []) new (Err e) → ReadsRequest start items new (Err e)
   reaches_failure start here new items i x found e short is reach read =
-      reach new (Err e) (subst (λ l. Reads here l new (Err e)) (sym (drop-next items i x short is)) (k.fails here new (x ∷ []) (drop (i + 1) items) e read))
+      reach new (Err e) (subst (λ l. ReadsRequest here l new (Err e)) (sym (drop-next items i x short is)) (k.fails here new (x ∷ []) (drop (i + 1) items) e read))
 
   pub reaches_break : (start here new : Progress) (items : List I) (i : ℕ) (x : I) (v : V) (found : List V)
-      → Reaches I V Reads start items here i found → Reads here (x ∷ []) new (Ok (v ∷ [])) → Reads start items new (Err NoMemory)
+      → Reaches I V ReadsRequest start items here i found → ReadsRequest here (x ∷ []) new (Ok (v ∷ [])) → ReadsRequest start items new (Err NoMemory)
   reaches_break start here new items i x v found reach read = reach new (Err NoMemory) (k.breaks here new (x ∷ []) (drop i items) (v ∷ []) read)
 
-  pub reaches_end : (start here : Progress) (items : List I) (i : ℕ) (found : List V) → length items ≤ i → Reaches I V Reads start items here i found → Reads start items here (Ok found)
+  pub reaches_end : (start here : Progress) (items : List I) (i : ℕ) (found : List V) → length items ≤ i → Reaches I V ReadsRequest start items here i found → ReadsRequest start items here (Ok found)
   reaches_end start here items i found past reach =
-      subst (λ l. Reads start items here (Ok l)) (append-nil found)
-      (reach here (Ok []) (subst (λ l. Reads here l here (Ok [])) (sym (drop_all i items past)) (k.nothing here)))
+      subst (λ l. ReadsRequest start items here (Ok l)) (append-nil found)
+      (reach here (Ok []) (subst (λ l. ReadsRequest here l here (Ok [])) (sym (drop_all i items past)) (k.nothing here)))
 
 -- ---- axioms
 

@@ -1,4 +1,4 @@
--- How far the reading of the texts of a request has come, and what each reader of texts does to that.
+-- For private clauses: how far the reading of the texts of a request has come, and what each reader of texts does to that.
 use Rattle.std.specs.Prelude.{◌≡◌, ℕ, ◌+◌, Bool, true, false, List, [], ◌∷◌, ◌++◌, map, Option, None, Some, Result, Ok, Err, ⊤}
 use Rattle.serde_json.specs.declared.value.Value.{Value}
 use Rattle.dd_concept.specs.declared.concept.Concept.{Concept}

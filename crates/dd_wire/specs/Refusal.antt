@@ -1,5 +1,7 @@
 -- A refusal, and how tests follow one another: the first that fails refuses.
 use Rattle.std.specs.Prelude.{ℕ, List, [], Bool, if◌then◌else◌, Option, None, Some, Result, Ok, Err, ◌==◌, codes, ⊤}
+use Rattle.dd_json.specs.InOrder.{wanted, unless}
+pub use Rattle.dd_json.specs.InOrder.{◌>>=◌}
 
 -- the code of an error, with a number where the code has one
 pub record Refusal : Type 0 where
@@ -17,20 +19,13 @@ refused code = record { code = code; n = None }
 abbrev pub refused_at : ℕ → ℕ → Refusal
 refused_at code n = record { code = code; n = Some n }
 
-infixl 10 ◌>>=◌
--- one test, and then the next one with what passed
-abbrev pub ◌>>=◌ : {A B : Type 0} → Tested A → (A → Tested B) → Tested B
-(Ok x) >>= f = f x
-(Err e) >>= f = Err e
-
 -- a test that asks for a value: without one the line is refused with this code
 abbrev pub or_refuse : {A : Type 0} → ℕ → Option A → Tested A
-or_refuse code None = Err (refused code)
-or_refuse code (Some x) = Ok x
+or_refuse code found = wanted (refused code) found
 
 -- a test that asks for a fact
 abbrev pub demand : ℕ → Bool → Tested Bool
-demand code holds = if holds then Ok holds else Err (refused code)
+demand code holds = unless (refused code) holds
 
 -- a test that asks that there be no fault, which has a number
 abbrev pub demand_none : ℕ → Option ℕ → Tested ⊤

@@ -9,7 +9,7 @@ use Rattle.dd_wire.specs.declared.reply.BadWorld.TheVariants as fault
 use Rattle.dd_wire.specs.declared.reply.Unread.{Unread}
 use Rattle.dd_wire.specs.declared.reply.Unread.TheVariants as unread
 use Rattle.dd_wire.specs.declared.reply.Reply.{Reply}
-use Rattle.dd_wire.specs.declared.reply.Reply.TheVariants.{Refused, Peers, Put, Decided, Valid, InvalidWorld, Unreadable}
+use Rattle.dd_wire.specs.declared.reply.Reply.TheVariants.{Refused, Peers, Put, Decided, Memory, Valid, InvalidWorld, Unreadable}
 
 abbrev pub whole_number : ℕ → Data
 whole_number n = number (unsigned n)
@@ -29,6 +29,11 @@ maybe_number key (Some n) rest = member key (whole_number n) rest
 abbrev pub verdict_name : Bool → List ℕ
 verdict_name true = codes "yes"
 verdict_name false = codes "no"
+
+-- the reply to an ask with this verdict
+abbrev pub verdict_data : ℕ → List ℕ → List ℕ → Data
+verdict_data id pin verdict = object (member (codes "id") (whole_number id) (member (codes "pin") (numbers pin)
+    (member (codes "verdict") (string verdict) no_members)))
 
 -- a world's fault, at a place where it has one
 abbrev pub plain_fault : List ℕ → ℕ → Data
@@ -68,8 +73,8 @@ reply_data (Refused id code n) = object (member (codes "code") (whole_number cod
 reply_data (Peers id count) = object (member (codes "id") (whole_number id) (member (codes "peers") (whole_number count) no_members))
 reply_data (Put id put version) = object (member (codes "id") (whole_number id) (member (codes "put") (string put)
     (member (codes "version") (whole_number version) no_members)))
-reply_data (Decided id verdict pin) = object (member (codes "id") (whole_number id) (member (codes "pin") (numbers pin.versions)
-    (member (codes "verdict") (string (verdict_name verdict)) no_members)))
+reply_data (Decided id verdict pin) = verdict_data id pin.versions (verdict_name verdict)
+reply_data (Memory id pin) = verdict_data id pin.versions (codes "memory")
 reply_data (Valid id) = object (member (codes "check") (string (codes "valid")) (member (codes "id") (whole_number id) no_members))
 reply_data (InvalidWorld id fault) = fault_data id fault
 reply_data (Unreadable id what) = unread_data id what

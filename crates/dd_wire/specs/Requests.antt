@@ -1,5 +1,5 @@
 -- What a request asks for: its peers, names and roles are numbers.
-use Rattle.std.specs.Prelude.{◌≡◌, ℕ, ◌+◌, ◌<◌, ◌^◌, Bool, List, [], map, length, if◌then◌else◌, Option, unwrap_or, Result, Ok, Err, ⊤}
+use Rattle.std.specs.Prelude.{◌≡◌, ℕ, Bool, List, [], map, if◌then◌else◌, Option, unwrap_or, Result, Ok, Err, ⊤}
 use Rattle.serde_json.specs.View.{view}
 use Rattle.serde_json.specs.declared.value.Value.{Value}
 use Rattle.dd_text.specs.Grammar.{Term}
@@ -8,6 +8,7 @@ use Rattle.dd_text.specs.Text.{axiom_of, concept_of}
 use Rattle.dd_peer.specs.declared.version.PeerVersion.{PeerVersion}
 use Rattle.dd_peer.specs.declared.version.Query.{Query}
 use Rattle.dd_peer.specs.declared.version.Rule.{Rule}
+use Rattle.dd_peer.specs.Versions.{IsNumbered}
 use Rattle.dd_wire.specs.declared.request.Request.{Request}
 use Rattle.dd_wire.specs.declared.request.Request.TheVariants as request
 use Rattle.dd_wire.specs.declared.request.WireErr.{WireErr}
@@ -73,19 +74,19 @@ TestsLine names old line found = AfterForm (accepted_form names line) names old 
 
 -- what is answered where the tests find what this says: the request, and its symbols are added; or the refusal, and the
 -- symbols stay
-abbrev pub Reads : (Tested Resolved → Type 0) → List (List ℕ) → (old new : SymbolLists) → Result Request WireErr → Type 0
-Reads Finds names old new (Ok r) = (p : Parsed) × Finds (Ok (record { request = p; symbols = new })) × IsRequest names new p r
-Reads Finds names old new (Err (Code code n)) = (new ≡ old) × Finds (Err (record { code = code; n = n }))
-Reads Finds names old new (Err NoMemory) = new ≡ old
+abbrev pub ReadsRequest : (Tested Resolved → Type 0) → List (List ℕ) → (old new : SymbolLists) → Result Request WireErr → Type 0
+ReadsRequest Finds names old new (Ok r) = (p : Parsed) × Finds (Ok (record { request = p; symbols = new })) × IsRequest names new p r
+ReadsRequest Finds names old new (Err (Code code n)) = (new ≡ old) × Finds (Err (record { code = code; n = n }))
+ReadsRequest Finds names old new (Err NoMemory) = new ≡ old
 
 -- the declared names, none where there are none yet
 abbrev pub declared_names : Option (List (List ℕ)) → List (List ℕ)
 declared_names names = unwrap_or names []
 
--- a list that is named by numbers of 32 bits is shorter than these
-abbrev pub IsNumbered : Request → Type 0
-IsNumbered (request.Peers names) = ⊤
-IsNumbered (request.Put peer v) = (length v.axioms < 2 ^ 32) × (length v.into + length v.onto < 2 ^ 32)
-IsNumbered (request.Ask q expansions verdicts) = ⊤
-IsNumbered (request.Check q pin cert) = ⊤
-IsNumbered request.Versions = ⊤
+-- the version of a put can be numbered
+abbrev pub IsNumberedRequest : Request → Type 0
+IsNumberedRequest (request.Peers names) = ⊤
+IsNumberedRequest (request.Put peer v) = IsNumbered v
+IsNumberedRequest (request.Ask q expansions verdicts) = ⊤
+IsNumberedRequest (request.Check q pin cert) = ⊤
+IsNumberedRequest request.Versions = ⊤

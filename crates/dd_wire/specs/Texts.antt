@@ -5,7 +5,7 @@ use Rattle.serde_json.specs.Data.{Data}
 use Rattle.dd_text.specs.Grammar.{Term, term_nodes, term_depth, IsConceptText, IsAxiomText, Spells, SpellsAxiom}
 use Rattle.dd_text.specs.Symbols.{SymbolLists, most_symbols, symbol_count}
 use Rattle.dd_text.specs.Text.{with_term}
-use Rattle.dd_text.specs.declared.read.TheConstants.{REQUEST}
+use Rattle.dd_concept.specs.Sizes.{most_nodes, most_depth}
 use Rattle.dd_wire.specs.declared.form.RuleForm.{RuleForm}
 use Rattle.dd_wire.specs.Forms.{Written}
 use Rattle.dd_wire.specs.Forms as form
@@ -102,7 +102,7 @@ trees_of versions = []
 
 -- a concept is within the limits of requests
 abbrev pub is_small : Term → Bool
-is_small t = nat_le (term_nodes t) REQUEST.nodes && nat_le (term_depth t) REQUEST.depth
+is_small t = nat_le (term_nodes t) most_nodes && nat_le (term_depth t) most_depth
 
 abbrev pub are_small : List Term → Bool
 are_small ts = list_all is_small ts

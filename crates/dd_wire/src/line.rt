@@ -3,7 +3,7 @@ ghost use Rattle.std.specs.Option.{option_copied};
 ghost use Rattle.serde_json.specs.View.{view};
 ghost use Rattle.dd_wire.specs.Forms.{written_of};
 ghost use Rattle.dd_wire.specs.Lines.{json_of, form_in, IsRefused};
-ghost use Rattle.dd_wire.specs.Requests.{Reads, TestsLine, accepted_form, declared_names, IsNumbered};
+ghost use Rattle.dd_wire.specs.Requests.{ReadsRequest, TestsLine, accepted_form, declared_names, IsNumberedRequest};
 
 use crate::accept::is_accepted_form;
 use crate::code::{BAD_JSON, BAD_SHAPE, NOT_BUILT};
@@ -65,8 +65,8 @@ pub fn read_request(
     names: Option<&Names>,
     line: &[u8],
 ) -> Result<Request, WireErr>
-    ensures reads { Reads (TestsLine (option_copied names.entry) symbols.old line.now) (declared_names (option_copied names.entry)) symbols.old symbols.new result }
-    ensures numbered { IfOk result IsNumbered }
+    ensures reads { ReadsRequest (TestsLine (option_copied names.entry) symbols.old line.now) (declared_names (option_copied names.entry)) symbols.old symbols.new result }
+    ensures numbered { IfOk result IsNumberedRequest }
 {
     let form = read_accepted(alloc, names, line)?;
     resolve(alloc, symbols, names, form)

@@ -8,7 +8,7 @@ ghost use Rattle.dd_text.specs.Symbols.{SymbolLists, has_text};
 ghost use Rattle.dd_wire.specs.Forms.{peers, put, versions};
 ghost use Rattle.dd_wire.specs.Texts.{has_room};
 ghost use Rattle.dd_wire.specs.Progress.{IsPeer, ReadsOn, ReadsQuery, asked, checked};
-ghost use Rattle.dd_wire.specs.Requests.{Reads, Tests, declared_names, IsNumbered};
+ghost use Rattle.dd_wire.specs.Requests.{ReadsRequest, Tests, declared_names, IsNumberedRequest};
 
 use crate::code::{BAD_PEERS, NO_PEERS, PEERS_TWICE, UNKNOWN_PEER};
 use crate::form::{Form, RuleForm};
@@ -34,8 +34,8 @@ pub fn resolve(
     names: Option<&Names>,
     form: Form,
 ) -> Result<Request, WireErr>
-    ensures reads { Reads (Tests (option_copied names.entry) symbols.old (written_of form)) (declared_names (option_copied names.entry)) symbols.old symbols.new result }
-    ensures numbered { IfOk result IsNumbered }
+    ensures reads { ReadsRequest (Tests (option_copied names.entry) symbols.old (written_of form)) (declared_names (option_copied names.entry)) symbols.old symbols.new result }
+    ensures numbered { IfOk result IsNumberedRequest }
 {
     let mark = symbols.mark();
     match request_of(alloc, symbols, names, form) {
@@ -56,7 +56,7 @@ fn request_of(
 ) -> Result<Request, WireErr>
     requires { IsTrue (has_room symbols.old) }
     ensures reads { ReadsOn (Tests (option_copied names.entry) symbols.old (written_of form)) (declared_names (option_copied names.entry)) symbols.old symbols.new result }
-    ensures numbered { IfOk result IsNumbered }
+    ensures numbered { IfOk result IsNumberedRequest }
 {
     match form {
         Form::Peers(wanted) => peers(names, wanted),
@@ -65,15 +65,7 @@ fn request_of(
             axioms,
             into,
             onto,
-        } => put(
-            alloc,
-            symbols,
-            names,
-            peer.as_slice(),
-            axioms.as_slice(),
-            into.as_slice(),
-            onto.as_slice(),
-        ),
+        } => put_of(alloc, symbols, names, &peer, &axioms, &into, &onto),
         Form::Ask {
             peer,
             left,
@@ -81,14 +73,7 @@ fn request_of(
             expansions,
             verdicts,
         } => {
-            let asked = query(
-                alloc,
-                symbols,
-                names,
-                peer.as_slice(),
-                left.as_slice(),
-                right.as_slice(),
-            );
+            let asked = query_of(alloc, symbols, names, &peer, &left, &right);
             ask(asked, expansions, verdicts)
         }
         Form::Check {
@@ -98,14 +83,7 @@ fn request_of(
             pin,
             cert,
         } => {
-            let checked = query(
-                alloc,
-                symbols,
-                names,
-                peer.as_slice(),
-                left.as_slice(),
-                right.as_slice(),
-            );
+            let checked = query_of(alloc, symbols, names, &peer, &left, &right);
             check(checked, pin, cert)
         }
         Form::Versions => versions(names),
@@ -114,7 +92,7 @@ fn request_of(
 
 fn peers(names: Option<&Names>, wanted: Items<Text>) -> Result<Request, WireErr>
     ensures reads { (s : SymbolLists) → IsTrue (has_room s) → ReadsOn (Tests (option_copied names.entry) s (peers wanted)) (declared_names (option_copied names.entry)) s s result }
-    ensures numbered { IfOk result IsNumbered }
+    ensures numbered { IfOk result IsNumberedRequest }
 {
     if names.is_some() {
         return Err(WireErr::Code {
@@ -163,7 +141,7 @@ fn has_text(names: &[Text], name: &[u8]) -> bool
 
 fn versions(names: Option<&Names>) -> Result<Request, WireErr>
     ensures reads { (s : SymbolLists) → IsTrue (has_room s) → ReadsOn (Tests (option_copied names.entry) s versions) (declared_names (option_copied names.entry)) s s result }
-    ensures numbered { IfOk result IsNumbered }
+    ensures numbered { IfOk result IsNumberedRequest }
 {
     if names.is_none() {
         return Err(WireErr::Code {
@@ -228,6 +206,27 @@ fn query(
     finish_with(tally, Query { peer, left, right })
 }
 
+fn query_of(
+    alloc: Global,
+    symbols: &mut Symbols,
+    names: Option<&Names>,
+    peer: &Text,
+    left: &Text,
+    right: &Text,
+) -> Result<Query, WireErr>
+    requires { IsTrue (has_room symbols.old) }
+    ensures { ReadsQuery (option_copied names.entry) symbols.old peer.now left.now right.now symbols.new result }
+{
+    query(
+        alloc,
+        symbols,
+        names,
+        peer.as_slice(),
+        left.as_slice(),
+        right.as_slice(),
+    )
+}
+
 fn ask(
     query: Result<Query, WireErr>,
     expansions: Option<u64>,
@@ -258,6 +257,30 @@ fn check(query: Result<Query, WireErr>, pin: Items<u32>, cert: Value) -> Result<
     }
 }
 
+fn put_of(
+    alloc: Global,
+    symbols: &mut Symbols,
+    names: Option<&Names>,
+    peer: &Text,
+    axioms: &Items<Text>,
+    into: &Items<RuleForm>,
+    onto: &Items<RuleForm>,
+) -> Result<Request, WireErr>
+    requires { IsTrue (has_room symbols.old) }
+    ensures reads { ReadsOn (Tests (option_copied names.entry) symbols.old (put peer.now axioms.now into.now onto.now)) (declared_names (option_copied names.entry)) symbols.old symbols.new result }
+    ensures numbered { IfOk result IsNumberedRequest }
+{
+    put(
+        alloc,
+        symbols,
+        names,
+        peer.as_slice(),
+        axioms.as_slice(),
+        into.as_slice(),
+        onto.as_slice(),
+    )
+}
+
 fn put(
     alloc: Global,
     symbols: &mut Symbols,
@@ -269,7 +292,7 @@ fn put(
 ) -> Result<Request, WireErr>
     requires { IsTrue (has_room symbols.old) }
     ensures reads { ReadsOn (Tests (option_copied names.entry) symbols.old (put peer.now axiom_texts.now into_forms.now onto_forms.now)) (declared_names (option_copied names.entry)) symbols.old symbols.new result }
-    ensures numbered { IfOk result IsNumbered }
+    ensures numbered { IfOk result IsNumberedRequest }
 {
     let peer = match peer_number(names, peer) {
         Ok(number) => number,

@@ -2,7 +2,7 @@ ghost use Rattle.std.specs.Prelude.{◌≡◌, IfOk, IsTrue, codes};
 ghost use Rattle.serde_json.specs.Data.{put, string, object, member, no_members};
 ghost use Rattle.serde_json.specs.View.{view, members_view};
 ghost use Rattle.dd_text.specs.Names.{names_a_thing};
-ghost use Rattle.dd_wire.specs.Replies.{numbers, whole_number, verdict_name, unread_number, unread_text, placed_fault, fault_data, unread_data, reply_data, reply_text, IsPrintable};
+ghost use Rattle.dd_wire.specs.Replies.{numbers, whole_number, verdict_name, verdict_data, unread_number, unread_text, placed_fault, fault_data, unread_data, reply_data, reply_text, IsPrintable};
 ghost use Rattle.dd_wire.specs.Steps.{put_maybe, outcome_members};
 
 use crate::code::name_of;
@@ -30,7 +30,8 @@ fn value_of(alloc: Global, reply: &Reply) -> Result<Value, NoMemory>
         Reply::Refused { id, code, n } => refused(alloc, *id, *code, *n),
         Reply::Peers { id, count } => peers(alloc, *id, *count),
         Reply::Put { id, put, version } => stored(alloc, *id, put.as_slice(), *version),
-        Reply::Decided { id, yes, pin } => decided(alloc, *id, *yes, pin),
+        Reply::Decided { id, yes, pin } => asked(alloc, *id, pin, verdict(*yes)),
+        Reply::Memory { id, pin } => asked(alloc, *id, pin, "memory"),
         Reply::Valid { id } => valid(alloc, *id),
         Reply::InvalidWorld { id, fault } => invalid(alloc, *id, fault),
         Reply::Unreadable { id, what } => unreadable(alloc, *id, what),
@@ -84,12 +85,13 @@ fn name_text(name: &[u8]) -> &str
     }
 }
 
-fn decided(alloc: Global, id: u64, yes: bool, pin: &Pin) -> Result<Value, NoMemory>
-    ensures { IfOk result (λ value. view value ≡ reply_data (Reply.Decided id yes pin.now)) }
+/// The reply to an ask, with this verdict.
+fn asked(alloc: Global, id: u64, pin: &Pin, verdict: &str) -> Result<Value, NoMemory>
+    ensures { IfOk result (λ value. view value ≡ verdict_data id pin.now.versions verdict.now) }
 {
     let reply = of_request(alloc, id)?;
     let reply = with_numbers(alloc, reply, "pin", pin.versions.as_slice())?;
-    let reply = with_text(alloc, reply, "verdict", verdict(yes))?;
+    let reply = with_text(alloc, reply, "verdict", verdict)?;
     Ok(Value::Object(reply))
 }
 

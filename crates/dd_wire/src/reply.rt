@@ -30,6 +30,8 @@ pub enum Reply {
     Peers { id: u64, count: u32 },
     Put { id: u64, put: Text, version: u32 },
     Decided { id: u64, yes: bool, pin: Pin },
+    /// There was no memory for an answer to an ask.
+    Memory { id: u64, pin: Pin },
     Valid { id: u64 },
     InvalidWorld { id: u64, fault: BadWorld },
     Unreadable { id: u64, what: Unread },

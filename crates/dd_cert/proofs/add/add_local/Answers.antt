@@ -1,6 +1,6 @@
 use Rattle.std.proofs.Common.{◌<◌, List, ℕ, subst}
 use Rattle.dd_text.specs.Symbols.{symbol_count}
-use Rattle.dd_cert.specs.Passes.{gather, with_name}
+use Rattle.dd_cert.specs.Steps.{gather, with_name}
 use Rattle.dd_cert.proofs.Adding.{full-names}
 use Rattle.dd_cert.proofs.add.add_local.Goals as goal
 

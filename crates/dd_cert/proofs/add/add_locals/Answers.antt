@@ -1,5 +1,5 @@
 use Rattle.dd_text.proofs.Building.{Grows-trans}
-use Rattle.dd_cert.specs.Passes.{has_names, with_local}
+use Rattle.dd_cert.specs.Steps.{has_names, with_local}
 use Rattle.dd_cert.proofs.Adding.{Grows-with_local, full-at, gather-all, gather-next, passes-later}
 use Rattle.dd_cert.proofs.add.add_locals.Goals as goal
 

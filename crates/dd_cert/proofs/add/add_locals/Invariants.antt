@@ -1,7 +1,7 @@
 use Rattle.std.proofs.Common.{◌≡◌, ◌≤◌, drop, true}
 use Rattle.std.specs.List.{list_all}
 use Rattle.dd_text.specs.Symbols.{Grows, symbol_count}
-use Rattle.dd_cert.specs.Passes.{gather, with_local, has_names}
+use Rattle.dd_cert.specs.Steps.{gather, with_local, has_names}
 use Rattle.dd_cert.proofs.add.add_locals.Given as goal
 
 abbrev pub invariant-loop-local : goal.invariant-loop-local

@@ -1,4 +1,4 @@
-use Rattle.dd_cert.specs.Passes.{with_name, has_name}
+use Rattle.dd_cert.specs.Steps.{with_name, has_name}
 use Rattle.dd_text.proofs.Building.{Grows-trans}
 use Rattle.dd_cert.proofs.Adding.{Grows-with_name, full-at, gather-all, gather-next, passes-here, passes-later}
 use Rattle.dd_cert.proofs.add.add_names.Goals as goal

@@ -1,7 +1,7 @@
 use Rattle.std.proofs.Common.{◌≡◌, ◌≤◌, drop, true}
 use Rattle.std.specs.List.{list_all}
 use Rattle.dd_text.specs.Symbols.{Grows, symbol_count}
-use Rattle.dd_cert.specs.Passes.{gather, with_role, has_role}
+use Rattle.dd_cert.specs.Steps.{gather, with_role, has_role}
 use Rattle.dd_cert.proofs.add.add_roles.Given as goal
 
 abbrev pub invariant-loop-role : goal.invariant-loop-role

@@ -1,6 +1,6 @@
 use Rattle.std.proofs.Common.{◌≡◌, drop, take, true}
 use Rattle.std.specs.List.{list_all}
-use Rattle.dd_cert.specs.Passes.{link_fits}
+use Rattle.dd_cert.specs.Steps.{link_fits}
 use Rattle.dd_cert.proofs.build.links.Given as goal
 
 abbrev pub invariant-loop-link : goal.invariant-loop-link

@@ -1,6 +1,6 @@
 use Rattle.std.proofs.Common.{ap, ◌∙◌, ◌++◌, ◌∷◌, []}
 use Rattle.dd_cert.specs.Certificates.{local_by}
-use Rattle.dd_cert.specs.Passes.{local_fits}
+use Rattle.dd_cert.specs.Steps.{local_fits}
 use Rattle.dd_cert.proofs.Adding.{passes-later}
 use Rattle.dd_cert.proofs.Loops.{made-all, made-next}
 use Rattle.dd_cert.proofs.build.locals.Goals as goal

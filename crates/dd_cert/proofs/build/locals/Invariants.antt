@@ -1,7 +1,7 @@
 use Rattle.std.proofs.Common.{◌≡◌, drop, take, map, true}
 use Rattle.std.specs.List.{list_all}
 use Rattle.dd_cert.specs.Certificates.{local_by}
-use Rattle.dd_cert.specs.Passes.{local_fits}
+use Rattle.dd_cert.specs.Steps.{local_fits}
 use Rattle.dd_cert.proofs.build.locals.Given as goal
 
 abbrev pub invariant-loop-local : goal.invariant-loop-local

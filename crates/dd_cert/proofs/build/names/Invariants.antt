@@ -1,6 +1,6 @@
 use Rattle.std.proofs.Common.{◌≡◌, drop, take, map, true}
 use Rattle.std.specs.List.{list_all}
-use Rattle.dd_cert.specs.Passes.{name_fits, name_by}
+use Rattle.dd_cert.specs.Steps.{name_fits, name_by}
 use Rattle.dd_cert.proofs.build.names.Given as goal
 
 abbrev pub invariant-loop-name : goal.invariant-loop-name

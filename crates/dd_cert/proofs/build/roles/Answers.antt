@@ -1,6 +1,6 @@
 use Rattle.std.proofs.Common.{ap, ◌∙◌, ◌++◌, ◌∷◌, []}
 use Rattle.dd_text.specs.Symbols.{number_of}
-use Rattle.dd_cert.specs.Passes.{role_by, role_fits}
+use Rattle.dd_cert.specs.Steps.{role_by, role_fits}
 use Rattle.dd_cert.proofs.Adding.{passes-later}
 use Rattle.dd_cert.proofs.Loops.{made-all, made-next}
 use Rattle.dd_cert.proofs.build.roles.Goals as goal

@@ -1,6 +1,6 @@
 use Rattle.std.proofs.Common.{◌≡◌, drop, take, map, true}
 use Rattle.std.specs.List.{list_all}
-use Rattle.dd_cert.specs.Passes.{role_fits, role_by}
+use Rattle.dd_cert.specs.Steps.{role_fits, role_by}
 use Rattle.dd_cert.proofs.build.roles.Given as goal
 
 abbrev pub invariant-loop-role : goal.invariant-loop-role

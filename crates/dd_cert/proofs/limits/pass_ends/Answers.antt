@@ -1,5 +1,5 @@
 use Rattle.std.proofs.Common.{sym, ap, ◌∙◌}
-use Rattle.dd_cert.specs.Passes.{◌>>=◌, past_ends, past_number}
+use Rattle.dd_cert.specs.Steps.{◌>>=◌, past_ends, past_number}
 use Rattle.dd_cert.proofs.Loops.{walk-ends, walk-next}
 use Rattle.dd_cert.proofs.limits.pass_ends.Goals as goal
 

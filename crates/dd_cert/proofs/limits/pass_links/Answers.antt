@@ -1,4 +1,4 @@
-use Rattle.dd_cert.specs.Passes.{past_link}
+use Rattle.dd_cert.specs.Steps.{past_link}
 use Rattle.dd_cert.proofs.Loops.{walk-ends}
 use Rattle.dd_cert.proofs.limits.pass_links.Goals as goal
 

@@ -1,5 +1,5 @@
 use Rattle.std.proofs.Common.{◌≡◌, drop}
-use Rattle.dd_cert.specs.Passes.{walk, past_link}
+use Rattle.dd_cert.specs.Steps.{walk, past_link}
 use Rattle.dd_cert.proofs.limits.pass_links.Given as goal
 
 abbrev pub invariant-loop-link : goal.invariant-loop-link

@@ -1,5 +1,5 @@
 use Rattle.std.proofs.Common.{sym, ◌∙◌}
-use Rattle.dd_cert.specs.Passes.{past_local}
+use Rattle.dd_cert.specs.Steps.{past_local}
 use Rattle.dd_cert.proofs.Loops.{walk-ends, walk-next}
 use Rattle.dd_cert.proofs.limits.pass_locals.Goals as goal
 

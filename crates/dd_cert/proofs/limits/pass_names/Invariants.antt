@@ -1,5 +1,5 @@
 use Rattle.std.proofs.Common.{◌≡◌, drop}
-use Rattle.dd_cert.specs.Passes.{walk, past_name}
+use Rattle.dd_cert.specs.Steps.{walk, past_name}
 use Rattle.dd_cert.proofs.limits.pass_names.Given as goal
 
 abbrev pub invariant-loop-name : goal.invariant-loop-name

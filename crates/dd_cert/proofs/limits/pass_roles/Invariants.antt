@@ -1,5 +1,5 @@
 use Rattle.std.proofs.Common.{◌≡◌, drop}
-use Rattle.dd_cert.specs.Passes.{walk, past_role}
+use Rattle.dd_cert.specs.Steps.{walk, past_role}
 use Rattle.dd_cert.proofs.limits.pass_roles.Given as goal
 
 abbrev pub invariant-loop-role : goal.invariant-loop-role

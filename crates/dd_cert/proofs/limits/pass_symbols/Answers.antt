@@ -1,5 +1,5 @@
 use Rattle.std.proofs.Common.{sym, ap, ◌∙◌}
-use Rattle.dd_cert.specs.Passes.{◌>>=◌, past_name, past_role, past_symbols, walk}
+use Rattle.dd_cert.specs.Steps.{◌>>=◌, past_name, past_role, past_symbols, walk}
 use Rattle.dd_cert.proofs.Loops.{walk-ends, walk-next}
 use Rattle.dd_cert.proofs.limits.pass_symbols.Goals as goal
 

@@ -1,5 +1,5 @@
 use Rattle.std.proofs.Common.{◌≡◌, drop}
-use Rattle.dd_cert.specs.Passes.{walk, past_symbols}
+use Rattle.dd_cert.specs.Steps.{walk, past_symbols}
 use Rattle.dd_cert.proofs.limits.pass_symbols.Given as goal
 
 abbrev pub invariant-loop-local : goal.invariant-loop-local

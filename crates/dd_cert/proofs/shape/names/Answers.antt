@@ -1,4 +1,3 @@
-use Rattle.std.proofs.Common.{ap, ◌∙◌, ◌++◌, ◌∷◌, []}
 use Rattle.dd_cert.specs.Forms.{name_of}
 use Rattle.dd_cert.proofs.Finding.{found-all, found-next}
 use Rattle.dd_cert.proofs.shape.names.Goals as goal

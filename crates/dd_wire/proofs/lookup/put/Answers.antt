@@ -71,4 +71,4 @@ returns-in-Ok-finish-clause-numbered c =
     let second = rules_counted names mid later c.args.into_forms.now c.in-Ok-rules.rules c.in-Ok-rules.ensures in
     let third = rules_counted names later final c.args.onto_forms.now c.in-Ok-rules-2.rules c.in-Ok-rules-2.ensures in
     let start : c.no_texts-tally.result.texts ≡ 0 = ap (λ (t : Tally). t.texts) c.no_texts-tally.ensures in
-    (omega (arith, first, second, third, start, c.finish.ensures.counted), omega (arith, first, second, third, start, c.finish.ensures.counted))
+    record { axioms = omega (arith, first, second, third, start, c.finish.ensures.counted); rules = omega (arith, first, second, third, start, c.finish.ensures.counted) }

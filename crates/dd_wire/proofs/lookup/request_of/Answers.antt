@@ -1,7 +1,6 @@
-use Rattle.std.proofs.Common.{◌≡◌, ap}
+use Rattle.std.proofs.Common.{ap}
 use Rattle.std.specs.Option.{option_copied}
-use Rattle.serde_json.specs.View.{view}
-use Rattle.dd_wire.specs.Forms.{Written, written_of, peers, put, ask, check, versions}
+use Rattle.dd_wire.specs.Forms.{Written, written_of, peers, put, versions}
 use Rattle.dd_wire.proofs.Answering.{ask_answers, ask_numbered, check_answers, check_numbered, of_form}
 use Rattle.dd_wire.proofs.lookup.request_of.Goals as goal
 
@@ -12,31 +11,24 @@ returns-in-Peers-clause-reads c =
 
 pub returns-in-Put-clause-reads : goal.returns-in-Put-clause-reads
 returns-in-Put-clause-reads c =
-    let said : Written = put c.as_slice.result.now c.as_slice-in-Put.result.now c.as_slice-in-Put-2.result.now c.as_slice-in-Put-3.result.now in
-    let is : written_of c.args.form ≡ said = cc (ap written_of c.in-Put.is, c.as_slice.ensures, c.as_slice-in-Put.ensures, c.as_slice-in-Put-2.ensures, c.as_slice-in-Put-3.ensures) in
-    of_form (option_copied c.args.names) c.args.symbols.now c.put.new.symbols said (written_of c.args.form) c.put.result is c.put.ensures.reads
+    let said : Written = put c.in-Put.peer c.in-Put.axioms c.in-Put.into c.in-Put.onto in
+    of_form (option_copied c.args.names) c.args.symbols.now c.put_of.new.symbols said (written_of c.args.form) c.put_of.result (ap written_of c.in-Put.is) c.put_of.ensures.reads
 
 pub returns-in-Ask-clause-reads : goal.returns-in-Ask-clause-reads
 returns-in-Ask-clause-reads c =
-    let peer = c.as_slice-in-Ask.result.now in
-    let left = c.as_slice-in-Ask-2.result.now in
-    let right = c.as_slice-in-Ask-3.result.now in
-    let is : written_of c.args.form ≡ ask peer left right c.in-Ask.expansions c.in-Ask.verdicts = cc (ap written_of c.in-Ask.is, c.as_slice-in-Ask.ensures, c.as_slice-in-Ask-2.ensures, c.as_slice-in-Ask-3.ensures) in
-    ask_answers (option_copied c.args.names) c.args.symbols.now c.query-asked.new.symbols peer left right c.in-Ask.expansions c.in-Ask.verdicts c.query-asked.result (written_of c.args.form) c.ask.result is c.ask.ensures c.query-asked.ensures
+    ask_answers (option_copied c.args.names) c.args.symbols.now c.query_of-asked.new.symbols c.in-Ask.peer c.in-Ask.left c.in-Ask.right c.in-Ask.expansions c.in-Ask.verdicts
+    c.query_of-asked.result (written_of c.args.form) c.ask.result (ap written_of c.in-Ask.is) c.ask.ensures c.query_of-asked.ensures
 
 pub returns-in-Ask-clause-numbered : goal.returns-in-Ask-clause-numbered
-returns-in-Ask-clause-numbered c = ask_numbered c.query-asked.result c.in-Ask.expansions c.in-Ask.verdicts c.ask.result c.ask.ensures
+returns-in-Ask-clause-numbered c = ask_numbered c.query_of-asked.result c.in-Ask.expansions c.in-Ask.verdicts c.ask.result c.ask.ensures
 
 pub returns-in-Check-clause-reads : goal.returns-in-Check-clause-reads
 returns-in-Check-clause-reads c =
-    let peer = c.as_slice-in-Check.result.now in
-    let left = c.as_slice-in-Check-2.result.now in
-    let right = c.as_slice-in-Check-3.result.now in
-    let is : written_of c.args.form ≡ check peer left right c.in-Check.pin (view c.in-Check.cert) = cc (ap written_of c.in-Check.is, c.as_slice-in-Check.ensures, c.as_slice-in-Check-2.ensures, c.as_slice-in-Check-3.ensures) in
-    check_answers (option_copied c.args.names) c.args.symbols.now c.query-checked.new.symbols peer left right c.in-Check.pin c.in-Check.cert c.query-checked.result (written_of c.args.form) c.check.result is c.check.ensures c.query-checked.ensures
+    check_answers (option_copied c.args.names) c.args.symbols.now c.query_of-checked.new.symbols c.in-Check.peer c.in-Check.left c.in-Check.right c.in-Check.pin c.in-Check.cert
+    c.query_of-checked.result (written_of c.args.form) c.check.result (ap written_of c.in-Check.is) c.check.ensures c.query_of-checked.ensures
 
 pub returns-in-Check-clause-numbered : goal.returns-in-Check-clause-numbered
-returns-in-Check-clause-numbered c = check_numbered c.query-checked.result c.in-Check.pin c.in-Check.cert c.check.result c.check.ensures
+returns-in-Check-clause-numbered c = check_numbered c.query_of-checked.result c.in-Check.pin c.in-Check.cert c.check.result c.check.ensures
 
 pub returns-in-Versions-clause-reads : goal.returns-in-Versions-clause-reads
 returns-in-Versions-clause-reads c =

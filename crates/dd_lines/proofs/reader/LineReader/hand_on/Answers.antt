@@ -1,7 +1,7 @@
 -- The line feed cuts the held bytes into the line and what is held then.
 use Rattle.std.proofs.Common.{sym, subst, take, refl}
 use Rattle.std.proofs.lemmas.Option.{slice_get_within}
-use Rattle.dd_lines.specs.Turn.{HandsOn}
+use Rattle.dd_lines.specs.Parts.{HandsOn}
 use Rattle.dd_lines.proofs.Feeds.{feed_cuts}
 use Rattle.dd_lines.proofs.reader.LineReader.hand_on.Goals as goal
 

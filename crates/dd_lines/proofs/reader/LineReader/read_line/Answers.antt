@@ -19,7 +19,7 @@ returns-in-Long g c =
     let r = replies-long c.skip.result c.args.self.now (g.S.Source.left c.args.source.now) c.gather.new.self (g.S.Source.left c.gather.new.source)
     c.skip.new.self (g.S.Source.left c.skip.new.source) (g.S.Source.fault_count c.args.source.now)
     (g.S.Source.fault_count c.gather.new.source) (g.S.Source.fault_count c.skip.new.source)
-    c.in-Long.ensures.stop.0 e.grows c.in-Long.ensures.counts here in
+    c.in-Long.ensures.stop.0 c.in-Long.ensures.counts here in
     record { answer = r.answer; going = r.going; stops = r.stops; limits = r.limits; counts = omega (arith, c.in-Long.ensures.counts, e.counts) }
 
 pub returns-in-Ended : goal.returns-in-Ended

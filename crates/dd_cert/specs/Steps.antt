@@ -1,8 +1,9 @@
--- What the passes of reading a certificate answer: the form, the numbers, the texts and the room for symbols.
+-- For private clauses: what the passes of reading a certificate answer: the form, the numbers, the texts and the room for symbols.
 use Rattle.std.specs.Prelude.{◌≡◌, ℕ, ◌+◌, nat_lt, nat_le, Bool, ◌&&◌, if◌then◌else◌, List, [], ◌∷◌, Option, option_and_then, Result, Ok, Err, codes}
 use Rattle.std.specs.List.{list_all}
 use Rattle.serde_json.specs.Data.{Data}
 use Rattle.serde_json.specs.Find.{get}
+pub use Rattle.dd_json.specs.InOrder.{◌>>=◌}
 use Rattle.dd_json.specs.Members.{largest_index}
 use Rattle.dd_json.specs.Members as json
 use Rattle.dd_json.specs.declared.shape.ShapeErr.{ShapeErr}
@@ -16,7 +17,9 @@ use Rattle.dd_cert.specs.declared.add.AddErr.{AddErr}
 use Rattle.dd_cert.specs.declared.add.AddErr.TheVariants as added
 use Rattle.dd_cert.specs.declared.form.LocalForm.{LocalForm}
 use Rattle.dd_cert.specs.declared.form.WorldForm.{WorldForm}
-use Rattle.dd_cert.specs.Certificates.{Tried, field}
+use Rattle.dd_cert.specs.declared.read.Cert.TheVariants as cert
+use Rattle.dd_world.specs.declared.world.World.{World}
+use Rattle.dd_cert.specs.Certificates.{Tried, Tells, field, certified_world}
 
 -- the number of elements of a local interpretation
 abbrev pub size_at : Data → Option ℕ
@@ -38,13 +41,12 @@ abbrev pub Finds : {A : Type 0} → Result A CertErr → Tried A → Type 0
 Finds (Ok x) found = found ≡ Ok x
 Finds (Err e) found = TellsForm e found
 
--- ---- numbers and texts, with the places as they are told
+-- what is made of a form by the passes after its shape
+abbrev pub Certifies : (old new : SymbolLists) → WorldForm → Result World CertErr → Type 0
+Certifies old new w (Ok world) = certified_world old w ≡ Ok (record { cert = cert.No world; symbols = new })
+Certifies old new w (Err e) = (new ≡ old) × Tells e (certified_world old w)
 
-infixl 10 ◌>>=◌
--- one part of a pass, and then the next one from the place behind it
-abbrev pub ◌>>=◌ : Result ℕ CertErr → (ℕ → Result ℕ CertErr) → Result ℕ CertErr
-(Ok at) >>= f = f at
-(Err e) >>= f = Err e
+-- ---- numbers and texts, with the places as they are told
 
 -- the place behind the items, by a step that passes one item
 abbrev pub walk : {X : Type 0} → (ℕ → X → Result ℕ CertErr) → ℕ → List X → Result ℕ CertErr
