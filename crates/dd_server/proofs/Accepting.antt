@@ -16,7 +16,7 @@ use Rattle.dd_wire.specs.Forms as form
 use Rattle.dd_wire.specs.Lines.{form_in, IsRefused}
 use Rattle.dd_wire.specs.Placed.{placed, are_peers}
 use Rattle.dd_wire.specs.Refusal.{Refusal, Tested, ◌>>=◌, demand, demand_none, refused, concept_limit, symbols_full, bad_peers, peers_twice}
-use Rattle.dd_wire.specs.Requests.{AfterPlace, Tests, Reads, IsRequest, declared_names}
+use Rattle.dd_wire.specs.Requests.{AfterPlace, Tests, ReadsRequest, IsRequest, declared_names}
 use Rattle.dd_wire.specs.Texts.{Parsed, Parse, parsed, outside, IsParse, Parses, Resolved, RuleTree, sized_texts, first_large, trees_of, with_terms, with_texts, has_room}
 use Rattle.dd_wire.specs.Texts as text
 use Rattle.dd_wire.specs.declared.reply.Reply.{Reply}
@@ -24,7 +24,8 @@ use Rattle.dd_wire.specs.declared.reply.Reply.TheVariants as reply
 use Rattle.dd_wire.specs.declared.request.Request.{Request}
 use Rattle.dd_wire.specs.declared.request.WireErr.{WireErr}
 use Rattle.dd_wire.specs.declared.request.WireErr.TheVariants as wire
-use Rattle.dd_server.specs.Does.{CutsTo, Fits, Does, AnsweredForm, AnsweredLine}
+use Rattle.dd_server.specs.Does.{CutsTo, Fits, DoesAlone, AnsweredForm, AnsweredLine}
+use Rattle.dd_server.specs.declared.options.Options.{Options}
 use Rattle.dd_server.specs.History.{Accepted}
 use Rattle.dd_server.specs.Session.{State, finished, longest_line, names_of, is_built}
 use Rattle.dd_server.specs.Turns.{RefusesLine}
@@ -184,42 +185,42 @@ cuts s w p y m found hn hr =
     }
 
 -- what a request does is an answer to its form
-pub accepted : {E : Type 0} (r : Result Reply E) (s new : State) (id : ℕ) (w : Written) (p : Parsed) (y : SymbolLists) (m : Mark) (q : Request) → is_built s w ≡ true
+pub accepted : {E : Type 0} (r : Result Reply E) (o : Options) (s new : State) (id : ℕ) (w : Written) (p : Parsed) (y : SymbolLists) (m : Mark) (q : Request) → is_built s w ≡ true
     → Tests s.peers s.symbols w (Ok (record { request = p; symbols = y })) → IsRequest (names_of s) y p q → m.names ≡ length s.symbols.names → m.roles ≡ length s.symbols.roles
-    → IfOk r (λ given. (before : SymbolLists) → CutsTo m y before → Does (with_symbols s before) id y q new given) → IfOk r (AnsweredForm s id w new)
-accepted (Err e) s new id w p y m q built tests is hn hr h = tt
-accepted (Ok given) s new id w p y m q built tests is hn hr h =
+    → IfOk r (λ given. (before : SymbolLists) → CutsTo m y before → DoesAlone o (with_symbols s before) id y q new given) → IfOk r (AnsweredForm o s id w new)
+accepted (Err e) o s new id w p y m q built tests is hn hr h = tt
+accepted (Ok given) o s new id w p y m q built tests is hn hr h =
     let found = resolves s w p y tests in
-    (Ok (record { request = p; symbols = y }), tests, does_answered s new id y p q given is (ready s w p y built found) (h s.symbols (cuts s w p y m found hn hr)))
+    (Ok (record { request = p; symbols = y }), tests, does_answered o s new id y p q given is (ready s w p y built found) (h s.symbols (cuts s w p y m found hn hr)))
 
 -- a refusal of a form is an answer to it, and the symbols are as before
-pub refused_form : {E : Type 0} (r : Result Reply E) (s : State) (y : SymbolLists) (id : ℕ) (w : Written) (e : WireErr)
-    → (let found : Result Request WireErr = Err e in Reads (Tests s.peers s.symbols w) (names_of s) s.symbols y found) → IfOk r (RefusesLine id e) → IfOk r (AnsweredForm s id w (with_symbols s y))
-refused_form (Err x) s y id w e reads h = tt
-refused_form (Ok given) s y id w wire.NoMemory reads h = absurd h
-refused_form (Ok given) s y id w (wire.Code code n) reads h =
-    subst (λ (z : SymbolLists). AnsweredForm s id w (with_symbols s z) given) (sym reads.0)
-    (Err (record { code = code; n = n }), reads.1, (finished (reply.Refused id code n), refl, h))
+pub refused_form : {E : Type 0} (r : Result Reply E) (o : Options) (s : State) (y : SymbolLists) (id : ℕ) (w : Written) (e : WireErr)
+    → (let found : Result Request WireErr = Err e in ReadsRequest (Tests s.peers s.symbols w) (names_of s) s.symbols y found) → IfOk r (RefusesLine id e) → IfOk r (AnsweredForm o s id w (with_symbols s y))
+refused_form (Err x) o s y id w e reads h = tt
+refused_form (Ok given) o s y id w wire.NoMemory reads h = absurd h
+refused_form (Ok given) o s y id w (wire.Code code n) reads h =
+    subst (λ (z : SymbolLists). AnsweredForm o s id w (with_symbols s z) given) (sym reads.0)
+    (Err (record { code = code; n = n }), reads.1, (s, finished (reply.Refused id code n), (refl, refl), (refl, h)))
 
 -- ---- lines
 
-pub refused_line_answered : {E : Type 0} (r : Result Reply E) (s : State) (id : ℕ) (line : List ℕ) (e : WireErr) → IsRefused e (form_in line) → IfOk r (RefusesLine id e)
-    → IfOk r (λ given. length line ≤ longest_line → AnsweredLine s id line s given)
-refused_line_answered (Err x) s id line e is h = tt
-refused_line_answered (Ok given) s id line wire.NoMemory is h = absurd h
-refused_line_answered (Ok given) s id line (wire.Code code n) is h = λ short.
-    answered-refused s id line (record { code = code; n = n }) given (refused-form s line (record { code = code; n = n }) short is) h
+pub refused_line_answered : {E : Type 0} (r : Result Reply E) (o : Options) (s : State) (id : ℕ) (line : List ℕ) (e : WireErr) → IsRefused e (form_in line) → IfOk r (RefusesLine id e)
+    → IfOk r (λ given. length line ≤ longest_line → AnsweredLine o s id line s given)
+refused_line_answered (Err x) o s id line e is h = tt
+refused_line_answered (Ok given) o s id line wire.NoMemory is h = absurd h
+refused_line_answered (Ok given) o s id line (wire.Code code n) is h = λ short.
+    answered-refused o s id line (record { code = code; n = n }) given (refused-form s line (record { code = code; n = n }) short is) h
 
-pub not_built_answered : (s : State) (id : ℕ) (line : List ℕ) (w : Written) (given : Reply) → form_in line ≡ Ok w → is_built s w ≡ false → given ≡ reply.Refused id 17 None
-    → length line ≤ longest_line → AnsweredLine s id line s given
-not_built_answered s id line w given is built same short = answered-refused s id line (refused 17) given (not_built-form s line w short is built) same
+pub not_built_answered : (o : Options) (s : State) (id : ℕ) (line : List ℕ) (w : Written) (given : Reply) → form_in line ≡ Ok w → is_built s w ≡ false → given ≡ reply.Refused id 17 None
+    → length line ≤ longest_line → AnsweredLine o s id line s given
+not_built_answered o s id line w given is built same short = answered-refused o s id line (refused 17) given (not_built-form s line w short is built) same
 
-pub form_answered : {E : Type 0} (r : Result Reply E) (s new : State) (id : ℕ) (line : List ℕ) (w : Written) → form_in line ≡ Ok w → is_built s w ≡ true → IfOk r (AnsweredForm s id w new)
-    → IfOk r (λ given. length line ≤ longest_line → AnsweredLine s id line new given)
-form_answered (Err x) s new id line w is built h = tt
-form_answered (Ok given) s new id line w is built h = λ short. answered-form s new id line w given (built-form s line w short is built) h
+pub form_answered : {E : Type 0} (r : Result Reply E) (o : Options) (s new : State) (id : ℕ) (line : List ℕ) (w : Written) → form_in line ≡ Ok w → is_built s w ≡ true → IfOk r (AnsweredForm o s id w new)
+    → IfOk r (λ given. length line ≤ longest_line → AnsweredLine o s id line new given)
+form_answered (Err x) o s new id line w is built h = tt
+form_answered (Ok given) o s new id line w is built h = λ short. answered-form o s new id line w given (built-form s line w short is built) h
 
 -- what a reader says by the names that it was given, which are the state's
 pub reads_at : (o names : Option (List (List ℕ))) (old y : SymbolLists) (w : Written) (r : Result Request WireErr) → o ≡ names
-    → Reads (Tests o old w) (declared_names o) old y r → Reads (Tests names old w) (declared_names names) old y r
-reads_at o names old y w r e h = subst (λ (ns : Option (List (List ℕ))). Reads (Tests ns old w) (declared_names ns) old y r) e h
+    → ReadsRequest (Tests o old w) (declared_names o) old y r → ReadsRequest (Tests names old w) (declared_names names) old y r
+reads_at o names old y w r e h = subst (λ (ns : Option (List (List ℕ))). ReadsRequest (Tests ns old w) (declared_names ns) old y r) e h

@@ -1,17 +1,21 @@
--- Whole runs: what was given so far, with whatever may follow, is an output of the session.
-use Rattle.std.proofs.Common.{◌≡◌, ℕ, ◌+◌, ◌<◌, ◌≤◌, List, [], ◌∷◌, ◌++◌, length, refl, ap, sym, ◌∙◌, subst, arith, Option, None, Some, IfSome}
+-- Whole runs: the lines so far led to where the session stands, and what was given is the replies of the windows that ended.
+use Rattle.std.proofs.Common.{◌≡◌, ℕ, ◌+◌, ◌<◌, ◌≤◌, ◌⊎◌, List, [], ◌∷◌, ◌++◌, length, take, refl, ap, sym, ◌∙◌, subst, inl, inr, arith, Option, None, Some, IfSome, length-append, zero-add}
+use Rattle.std.proofs.Math.Nat.{suc-add}
 use Rattle.std.proofs.lemmas.List.{append-nil, append_assoc}
-use Rattle.dd_lines.specs.Lines.{lines_of}
-use Rattle.dd_lines.specs.NextLine.{Spells, Next, Over}
-use Rattle.dd_lines.specs.Outside.{Gives, GivesFront}
-use Rattle.dd_lines.specs.Reading.{Reading, ahead}
+use Rattle.dd_lines.specs.Lines.{lines_of, ended_lines, IsCut}
+use Rattle.dd_lines.specs.NextLine.{StandsFor, IsFirst, Next, Over, TakesNoFeed, TakesTooMuch}
+use Rattle.dd_lines.specs.Outside.{Gives, GivesFront, TakesFront}
+use Rattle.dd_lines.specs.Reading.{Reading, room, ahead}
 use Rattle.dd_lines.specs.declared.reader.LineStep.{LineStep}
 use Rattle.dd_lines.specs.declared.reader.LineStep.TheVariants as step
+use Rattle.dd_lines.proofs.Feeds.{ended_lines-feed, ended_lines-none}
 use Rattle.dd_wire.specs.Replies.{reply_text}
 use Rattle.dd_wire.specs.declared.reply.Reply.{Reply}
-use Rattle.dd_server.specs.Headline.{window, most_bytes, GivesAll, GivesFirst, GivesSome}
-use Rattle.dd_server.specs.Session.{State, Standing, From, Session, opening, written}
+use Rattle.dd_server.specs.declared.options.Options.{Options}
+use Rattle.dd_server.specs.Headline.{most_bytes, GivesAll, GivesFirst, GivesSome, WereRead, GivesRead, GivesWithin}
+use Rattle.dd_server.specs.Session.{State, Standing, Through, Session, opening, written}
 use Rattle.dd_server.specs.Turns.{IsLine, Turned, BreaksOff}
+use Rattle.dd_server.proofs.GoesOn.{through-turn, completes}
 use Rattle.dd_server.proofs.Turning.{between}
 
 -- ---- what is given
@@ -42,29 +46,40 @@ written-append (r ∷ rs) ss = ap (λ (zs : List ℕ). (reply_text r ++ 10 ∷ [
 
 -- ---- a run
 
--- How far a session over this input has come: the rest is ahead (`now`), with so much space for bytes; what was given is
--- the replies, and whatever may be replied from here on completes a session.
-pub record Reached (input : List ℕ) (now before given : Option (List ℕ)) (space : ℕ) (at : Standing) : Type 0 where
+-- How far a session over this input has come: these bytes of it are passed and the rest is ahead (`now`), with so much space
+-- for bytes; the lines that were passed led to where it stands, and what was given is the replies of the windows that they
+-- ended. They are those whose line feed was passed, but for a last one that lacks it.
+pub record SoFar (o : Options) (input : List ℕ) (now before given : Option (List ℕ)) (space : ℕ) (at : Standing) : Type 0 where
   pub rest : List ℕ
   pub is_ahead : now ≡ Some rest
   pub sum : most_bytes + length rest ≡ space + length input
+  pub passed : List ℕ
+  pub input_is : input ≡ passed ++ rest
+  pub lines : List (List ℕ)
+  pub lines_are : lines_of input ≡ lines ++ lines_of rest
+  pub ended : ((more : List ℕ) → ended_lines (passed ++ more) ≡ lines ++ ended_lines more) ⊎ (rest ≡ [])
   pub replies : List Reply
+  pub through : Through o opening lines at replies
   pub gives : Gives before given (written replies)
-  pub goes_on : (more : List Reply) → From window at (lines_of rest) more → Session window input (replies ++ more)
 
 -- the same where the source tells its input
-abbrev pub Reaches : (old now before given : Option (List ℕ)) → ℕ → Standing → Type 0
-Reaches old now before given space at = IfSome old (λ input. Reached input now before given space at)
+abbrev pub IsSoFar : Options → (old now before given : Option (List ℕ)) → ℕ → Standing → Type 0
+IsSoFar o old now before given space at = IfSome old (λ input. SoFar o input now before given space at)
 
-pub reaches_start : (old before : Option (List ℕ)) → Reaches old old before before most_bytes opening
-reaches_start None before = tt
-reaches_start (Some input) before = record {
+pub reaches_start : (o : Options) (old before : Option (List ℕ)) → IsSoFar o old old before before most_bytes opening
+reaches_start o None before = tt
+reaches_start o (Some input) before = record {
   rest = input;
   is_ahead = refl;
   sum = refl;
+  passed = [];
+  input_is = refl;
+  lines = [];
+  lines_are = refl;
+  ended = inl (λ more. refl);
   replies = [];
+  through = (refl, refl);
   gives = gives_nothing before;
-  goes_on = λ more from. from;
 }
 
 -- what a reader's answer says of what was ahead and is ahead now
@@ -76,7 +91,8 @@ pub record Parts (max : ℕ) (s : LineStep) (all : List ℕ) (later : Option (Li
   pub rest : List ℕ
   pub is_ahead : later ≡ Some rest
   pub line : List ℕ
-  pub spells : Spells max s line
+  pub stands : StandsFor max s line
+  pub cut : IsCut all line rest
   pub lines : lines_of all ≡ line ∷ lines_of rest
   pub sum : space + length rest ≡ less + length all
 
@@ -84,26 +100,69 @@ parts : (max : ℕ) (s : LineStep) (now later : Option (List ℕ)) (all : List �
     → Parts max s all later space less
 parts max s now later all space less is e h = at s is (subst (λ (o : Option (List ℕ)). Steps max s o later space less) e h)
   where
+    first : (s : LineStep) (rest : List ℕ) → later ≡ Some rest → IsFirst max s all rest space less → Parts max s all later space less
+    first s rest ahead f = record { rest = rest; is_ahead = ahead; line = f.0; stands = f.1; cut = f.2; lines = f.3; sum = f.4 }
+
     at : (s : LineStep) → IsLine s → Steps max s (Some all) later space less → Parts max s all later space less
-    at (step.Line v) is h = record { rest = h.0; is_ahead = h.1; line = h.2.0; spells = h.2.1; lines = h.2.2; sum = h.2.3 }
-    at step.TooLong is h = record { rest = h.0; is_ahead = h.1; line = h.2.0; spells = h.2.1; lines = h.2.2; sum = h.2.3 }
+    at (step.Line v) is h = first (step.Line v) h.0 h.1 h.2
+    at step.TooLong is h = first step.TooLong h.0 h.1 h.2
     at step.End is h = absurd is
 
-pub reaches_turn : (max : ℕ) (s : LineStep) (old now later before given after : Option (List ℕ)) (space less : ℕ) (at next : Standing) → IsLine s
-    → Reaches old now before given space at → Steps max s now later space less → ((line : List ℕ) → Spells max s line → Turned at line next given after)
-    → Reaches old later before after less next
-reaches_turn max s None now later before given after space less at next is r h turned = tt
-reaches_turn max s (Some input) now later before given after space less at next is r h turned =
+-- one more line is passed
+pub record Longer (passed rest : List ℕ) (input : List ℕ) (lines : List (List ℕ)) : Type 0 where
+  pub bytes : List ℕ
+  pub input_is : input ≡ bytes ++ rest
+  pub ended : ((more : List ℕ) → ended_lines (bytes ++ more) ≡ lines ++ ended_lines more) ⊎ (rest ≡ [])
+
+longer : (passed rest line behind input : List ℕ) (lines : List (List ℕ)) → input ≡ passed ++ rest
+    → ((more : List ℕ) → ended_lines (passed ++ more) ≡ lines ++ ended_lines more) ⊎ (rest ≡ [])
+    → IsCut rest line behind → Longer passed behind input (lines ++ line ∷ [])
+longer passed rest line behind input lines is ended cut = by_cut cut.1
+  where
+    by_cut : (rest ≡ line ++ 10 ∷ behind) ⊎ ((rest ≡ line) × (behind ≡ []) × (0 < length line)) → Longer passed behind input (lines ++ line ∷ [])
+    by_cut (inr last) = record {
+      bytes = passed ++ rest;
+      input_is = is ∙ sym (append-nil (passed ++ rest)) ∙ ap (λ (v : List ℕ). (passed ++ rest) ++ v) (sym last.1);
+      ended = inr last.1;
+    }
+    by_cut (inl feed) = record {
+      bytes = passed ++ (line ++ 10 ∷ []);
+      input_is = is ∙ ap (λ (v : List ℕ). passed ++ v) feed ∙ ap (λ (v : List ℕ). passed ++ v) (sym (append_assoc line (10 ∷ []) behind)) ∙ sym (append_assoc passed (line ++ 10 ∷ []) behind);
+      ended = inl (by_before ended);
+    }
+      where
+        by_before : ((more : List ℕ) → ended_lines (passed ++ more) ≡ lines ++ ended_lines more) ⊎ (rest ≡ [])
+            → (more : List ℕ) → ended_lines ((passed ++ (line ++ 10 ∷ [])) ++ more) ≡ (lines ++ line ∷ []) ++ ended_lines more
+        by_before (inl before) more =
+            ap ended_lines (append_assoc passed (line ++ 10 ∷ []) more ∙ ap (λ (v : List ℕ). passed ++ v) (append_assoc line (10 ∷ []) more))
+            ∙ before (line ++ 10 ∷ more)
+            ∙ ap (λ (v : List (List ℕ)). lines ++ v) (ended_lines-feed line more cut.0)
+            ∙ sym (append_assoc lines (line ∷ []) (ended_lines more))
+        by_before (inr none) more =
+            let size : length rest ≡ length line + length (10 ∷ behind) = ap length feed ∙ length-append line (10 ∷ behind) in
+            let zero : length rest ≡ 0 = ap length none in
+            absurd (omega arith)
+
+pub reaches_turn : (o : Options) (max : ℕ) (s : LineStep) (old now later before given after : Option (List ℕ)) (space less : ℕ) (at next : Standing) → IsLine s
+    → IsSoFar o old now before given space at → Steps max s now later space less → ((line : List ℕ) → StandsFor max s line → Turned o at line next given after)
+    → IsSoFar o old later before after less next
+reaches_turn o max s None now later before given after space less at next is r h turned = tt
+reaches_turn o max s (Some input) now later before given after space less at next is r h turned =
     let p = parts max s now later r.rest space less is r.is_ahead h in
-    let t = turned p.line p.spells in
+    let t = turned p.line p.stands in
+    let l = longer r.passed r.rest p.line p.rest input r.lines r.input_is r.ended p.cut in
     record {
       rest = p.rest;
       is_ahead = p.is_ahead;
       sum = omega (arith, r.sum, p.sum);
+      passed = l.bytes;
+      input_is = l.input_is;
+      lines = r.lines ++ p.line ∷ [];
+      lines_are = r.lines_are ∙ ap (λ (v : List (List ℕ)). r.lines ++ v) p.lines ∙ sym (append_assoc r.lines (p.line ∷ []) (lines_of p.rest));
+      ended = l.ended;
       replies = r.replies ++ t.0;
+      through = through-turn o opening at next r.lines p.line r.replies t.0 r.through t.1;
       gives = subst (Gives before after) (sym (written-append r.replies t.0)) (gives_both before given after (written r.replies) (written t.0) r.gives t.2);
-      goes_on = λ more from. subst (Session window input) (sym (append_assoc r.replies t.0 more))
-          (r.goes_on (t.0 ++ more) (subst (λ (ls : List (List ℕ)). From window at ls (t.0 ++ more)) (sym p.lines) (next, t.0, more, t.1, from, refl)));
     }
 
 -- ---- how a run ends
@@ -126,53 +185,149 @@ nothing_left r (Some xs) e = ap Some (tail r.held xs (inside e))
         cons : h ∷ (hs ++ xs) ≡ [] → ⊥
         cons e = cc e
 
-pub done : (max : ℕ) (old now before given left : Option (List ℕ)) (r : Reading) (space less : ℕ) (s : State) (n : ℕ)
-    → Reaches old now before given space (between s n) → Steps max step.End now (ahead r left) space less
-    → IfSome old (λ input. (left ≡ Some []) × GivesAll input before given)
-done max None now before given left r space less s n reached h = tt
-done max (Some input) now before given left r space less s n reached h =
+pub done : (o : Options) (max : ℕ) (old now before given left : Option (List ℕ)) (r : Reading) (space less : ℕ) (s : State) (n : ℕ)
+    → IsSoFar o old now before given space (between s n) → Steps max step.End now (ahead r left) space less
+    → IfSome old (λ input. (left ≡ Some []) × GivesAll o input before given)
+done o max None now before given left r space less s n reached h = tt
+done o max (Some input) now before given left r space less s n reached h =
     let ends : Steps max step.End (Some reached.rest) (ahead r left) space less = subst (λ (o : Option (List ℕ)). Steps max step.End o (ahead r left) space less) reached.is_ahead h in
-    let from = subst (λ (xs : List ℕ). From window (between s n) (lines_of xs) []) (sym ends.2.0) (s, (refl, refl)) in (
+    let all : lines_of input ≡ reached.lines = reached.lines_are ∙ ap (λ (xs : List ℕ). reached.lines ++ lines_of xs) ends.2.0 ∙ append-nil reached.lines in
+    let through = subst (λ (ls : List (List ℕ)). Through o opening ls (between s n) reached.replies) (sym all) reached.through in (
       nothing_left r left (ends.1 ∙ ap Some ends.2.1),
-      (reached.replies, subst (Session window input) (append-nil reached.replies) (reached.goes_on [] from), reached.gives),
+      (reached.replies, (between s n, reached.replies, s, [], through, (refl, refl), sym (append-nil reached.replies)), reached.gives),
     )
 
-pub done_limit : (max : ℕ) (old now before given later : Option (List ℕ)) (space less : ℕ) (at : Standing)
-    → Reaches old now before given space at → Steps max step.End now later space less → IfSome old (λ input. length input ≤ most_bytes)
-done_limit max None now before given later space less at reached h = tt
-done_limit max (Some input) now before given later space less at reached h =
+pub done_limit : (o : Options) (max : ℕ) (old now before given later : Option (List ℕ)) (space less : ℕ) (at : Standing)
+    → IsSoFar o old now before given space at → Steps max step.End now later space less → IfSome old (λ input. length input ≤ most_bytes)
+done_limit o max None now before given later space less at reached h = tt
+done_limit o max (Some input) now before given later space less at reached h =
     let ends : Steps max step.End (Some reached.rest) later space less = subst (λ (o : Option (List ℕ)). Steps max step.End o later space less) reached.is_ahead h in
     omega (arith, reached.sum, ap length ends.2.0)
 
-pub over_limit : (old now before given : Option (List ℕ)) (space : ℕ) (at : Standing)
-    → Reaches old now before given space at → IfSome now (Over space) → IfSome old (λ input. most_bytes < length input)
-over_limit None now before given space at reached h = tt
-over_limit (Some input) now before given space at reached h =
+pub over_limit : (o : Options) (old now before given : Option (List ℕ)) (space : ℕ) (at : Standing)
+    → IsSoFar o old now before given space at → IfSome now (Over space) → IfSome old (λ input. most_bytes < length input)
+over_limit o None now before given space at reached h = tt
+over_limit o (Some input) now before given space at reached h =
     let over : Over space reached.rest = subst (λ (o : Option (List ℕ)). IfSome o (Over space)) reached.is_ahead h in
     omega (arith, reached.sum, over.0)
 
--- some replies may follow
-abbrev pub MayGoOn : Standing → Type 0
-MayGoOn at = (lines : List (List ℕ)) → (replies : List Reply) × From window at lines replies
+first_of : (o : Options) (input : List ℕ) (now before given : Option (List ℕ)) (space : ℕ) (at : Standing) → SoFar o input now before given space at → GivesFirst o input before given
+first_of o input now before given space at r =
+    let more = completes o input r.lines (lines_of r.rest) at r.replies r.lines_are r.through in
+    (r.replies, more.0, more.1, r.gives)
 
-pub stopped : (old now before given : Option (List ℕ)) (space : ℕ) (at : Standing) → MayGoOn at → Reaches old now before given space at
-    → IfSome old (λ input. GivesFirst input before given)
-stopped None now before given space at any r = tt
-stopped (Some input) now before given space at any r =
-    let more = any (lines_of r.rest) in
-    (r.replies, more.0, r.goes_on more.0 more.1, r.gives)
+pub stopped : (o : Options) (old now before given : Option (List ℕ)) (space : ℕ) (at : Standing) → IsSoFar o old now before given space at
+    → IfSome old (λ input. GivesFirst o input before given)
+stopped o None now before given space at r = tt
+stopped o (Some input) now before given space at r = first_of o input now before given space at r
 
-pub broken : (max : ℕ) (s : LineStep) (old now later before given after : Option (List ℕ)) (space less : ℕ) (at next : Standing) → IsLine s → MayGoOn next
-    → Reaches old now before given space at → Steps max s now later space less → ((line : List ℕ) → Spells max s line → BreaksOff at line next given after)
-    → IfSome old (λ input. GivesSome input before after)
-broken max s None now later before given after space less at next is any r h breaks = tt
-broken max s (Some input) now later before given after space less at next is any r h breaks =
+-- before the first line nothing was given
+pub nothing_yet : (o : Options) (old before : Option (List ℕ)) → IfSome old (λ input. GivesFirst o input before before)
+nothing_yet o old before = stopped o old old before before most_bytes opening (reaches_start o old before)
+
+-- the bytes that were taken, where the source tells them: those that were passed, those that were held and these
+took : (o : Options) (input : List ℕ) (before given : Option (List ℕ)) (r : Reading) (left rest : Option (List ℕ)) (bytes : List ℕ) (space : ℕ) (at : Standing)
+    → (reached : SoFar o input (ahead r left) before given space at) → TakesFront left rest bytes
+    → (ys : List ℕ) × (rest ≡ Some ys) × (reached.rest ≡ (r.held ++ bytes) ++ ys) × (input ≡ (reached.passed ++ (r.held ++ bytes)) ++ ys)
+took o input before given r None rest bytes space at reached t = absurd (apart reached.is_ahead)
+  where
+    apart : (let o : Option (List ℕ) = None in o) ≡ Some reached.rest → ⊥
+    apart e = cc e
+took o input before given r (Some xs) None bytes space at reached t = absurd t
+took o input before given r (Some xs) (Some ys) bytes space at reached t =
+    let rest : reached.rest ≡ (r.held ++ bytes) ++ ys = sym (inside reached.is_ahead) ∙ ap (λ (v : List ℕ). r.held ++ v) t ∙ sym (append_assoc r.held bytes ys) in
+    (ys, refl, rest, reached.input_is ∙ ap (λ (v : List ℕ). reached.passed ++ v) rest ∙ sym (append_assoc reached.passed (r.held ++ bytes) ys))
+  where
+    inside : Some (r.held ++ xs) ≡ Some reached.rest → r.held ++ xs ≡ reached.rest
+    inside e = cc e
+
+-- no bytes are all bytes of a list that has none
+no_more : (xs ys : List ℕ) → xs ++ ys ≡ [] → ys ≡ []
+no_more [] ys e = e
+no_more (x ∷ xs) ys e = absurd (cons e)
+  where
+    cons : x ∷ (xs ++ ys) ≡ [] → ⊥
+    cons e = cc e
+
+-- the source failed
+pub failed : (o : Options) (old left before given rest : Option (List ℕ)) (r new : Reading) (space : ℕ) (at : Standing)
+    → IsSoFar o old (ahead r left) before given space at → TakesNoFeed r left new rest
+    → IfSome old (λ input. GivesFirst o input before given × GivesRead o input rest before given)
+failed o None left before given rest r new space at reached t = tt
+failed o (Some input) left before given rest r new space at reached t =
+    let k = took o input before given r left rest t.0 space at reached t.1.0 in
+    let taken = reached.passed ++ (r.held ++ t.0) in (
+      first_of o input (ahead r left) before given space at reached,
+      (taken, k.0, k.3, k.1, reached.lines, were_read taken k.0 k.3 k.2 reached.ended, (at, reached.replies, reached.through, reached.gives)),
+    )
+  where
+    were_read : (taken ys : List ℕ) → input ≡ taken ++ ys → reached.rest ≡ (r.held ++ t.0) ++ ys
+        → ((more : List ℕ) → ended_lines (reached.passed ++ more) ≡ reached.lines ++ ended_lines more) ⊎ (reached.rest ≡ [])
+        → WereRead (reached.passed ++ (r.held ++ t.0)) ys reached.lines
+    were_read taken ys is rest (inl ended) =
+        inl (sym (append-nil reached.lines) ∙ ap (λ (v : List (List ℕ)). reached.lines ++ v) (sym (ended_lines-none (r.held ++ t.0) t.2)) ∙ sym (ended (r.held ++ t.0)))
+    were_read taken ys is rest (inr none) =
+        let empty : ys ≡ [] = no_more (r.held ++ t.0) ys (sym rest ∙ none) in
+        let same : reached.passed ++ (r.held ++ t.0) ≡ input = ap (λ (v : List ℕ). reached.passed ++ v) (sym (append-nil (r.held ++ t.0)) ∙ ap (λ (v : List ℕ). (r.held ++ t.0) ++ v) (sym empty) ∙ sym rest) ∙ sym reached.input_is in
+        inr (empty, sym (ap lines_of same ∙ reached.lines_are ∙ ap (λ (v : List ℕ). reached.lines ++ lines_of v) none ∙ append-nil reached.lines))
+
+-- the source gave too much
+pub too_much : (o : Options) (old left before given rest : Option (List ℕ)) (r new : Reading) (at : Standing)
+    → IsSoFar o old (ahead r left) before given (room r) at → IfSome (ahead r left) (Over (room r)) × TakesTooMuch r left new rest
+    → IfSome old (λ input. GivesFirst o input before given × GivesWithin o input rest before given)
+too_much o None left before given rest r new at reached both = tt
+too_much o (Some input) left before given rest r new at reached both =
+    let t = both.1 in
+    let k = took o input before given r left rest t.0 (room r) at reached t.1.0 in
+    let seen = r.held ++ t.0 in
+    let taken = reached.passed ++ seen in
+    let whole : length input ≡ length reached.passed + length reached.rest = ap length reached.input_is ∙ length-append reached.passed reached.rest in
+    let passed : length reached.passed + room r ≡ most_bytes = omega (arith, whole, reached.sum) in
+    let count : length taken ≡ most_bytes + 1 = length-append reached.passed seen ∙ omega (arith, passed, t.3) in
+    let within : take most_bytes taken ≡ reached.passed ++ take (room r) seen = ap (λ (n : ℕ). take n taken) (sym passed) ∙ take_past reached.passed seen (room r) in (
+      first_of o input (ahead r left) before given (room r) at reached,
+      (
+        taken,
+        k.0,
+        k.3,
+        k.1,
+        count,
+        (
+          at,
+          reached.replies,
+          subst (λ (ls : List (List ℕ)). Through o opening ls at reached.replies) (by_ended reached.ended ∙ ap ended_lines (sym within)) reached.through,
+          reached.gives,
+        ),
+      ),
+    )
+  where
+    take_past : (xs ys : List ℕ) (n : ℕ) → take (length xs + n) (xs ++ ys) ≡ xs ++ take n ys
+    take_past [] ys n = ap (λ (k : ℕ). take k ys) (zero-add n)
+    take_past (x ∷ xs) ys n = ap (λ (k : ℕ). take k (x ∷ (xs ++ ys))) (suc-add (length xs) n) ∙ ap (λ (v : List ℕ). x ∷ v) (take_past xs ys n)
+
+    by_ended : ((more : List ℕ) → ended_lines (reached.passed ++ more) ≡ reached.lines ++ ended_lines more) ⊎ (reached.rest ≡ [])
+        → reached.lines ≡ ended_lines (reached.passed ++ take (room r) (r.held ++ both.1.0))
+    by_ended (inl ended) =
+        let front = take (room r) (r.held ++ both.1.0) in
+        sym (append-nil reached.lines) ∙ ap (λ (v : List (List ℕ)). reached.lines ++ v) (sym (ended_lines-none front both.1.4)) ∙ sym (ended front)
+    by_ended (inr none) =
+        let over : Over (room r) reached.rest = subst (λ (o : Option (List ℕ)). IfSome o (Over (room r))) reached.is_ahead both.0 in
+        let zero : length reached.rest ≡ 0 = ap length none in
+        let more = over.0 in
+        absurd (omega (arith, more, zero))
+
+pub broken : (o : Options) (max : ℕ) (s : LineStep) (old now later before given after : Option (List ℕ)) (space less : ℕ) (at next : Standing) → IsLine s
+    → IsSoFar o old now before given space at → Steps max s now later space less → ((line : List ℕ) → StandsFor max s line → BreaksOff o at line next given after)
+    → IfSome old (λ input. GivesSome o input before after)
+broken o max s None now later before given after space less at next is r h breaks = tt
+broken o max s (Some input) now later before given after space less at next is r h breaks =
     let p = parts max s now later r.rest space less is r.is_ahead h in
-    let t = breaks p.line p.spells in
-    let more = any (lines_of p.rest) in
-    let front = front_after before given after (written r.replies) (written t.0 ++ written more.0) r.gives
-    (front_before given after (written t.0) (written more.0) t.2) in (
-      r.replies ++ (t.0 ++ more.0),
-      r.goes_on (t.0 ++ more.0) (subst (λ (ls : List (List ℕ)). From window at ls (t.0 ++ more.0)) (sym p.lines) (next, t.0, more.0, t.1, more.1, refl)),
-      subst (GivesFront before after) (sym (written-append r.replies (t.0 ++ more.0) ∙ ap (λ (zs : List ℕ). written r.replies ++ zs) (written-append t.0 more.0))) front,
+    let t = breaks p.line p.stands in
+    let lines : lines_of input ≡ (r.lines ++ p.line ∷ []) ++ lines_of p.rest
+    = r.lines_are ∙ ap (λ (v : List (List ℕ)). r.lines ++ v) p.lines ∙ sym (append_assoc r.lines (p.line ∷ []) (lines_of p.rest)) in
+    let more = completes o input (r.lines ++ p.line ∷ []) (lines_of p.rest) next (r.replies ++ t.0) lines (through-turn o opening at next r.lines p.line r.replies t.0 r.through t.1) in
+    let front = front_before before after (written r.replies ++ written t.0) (written more.0) (front_after before given after (written r.replies) (written t.0) r.gives t.2) in (
+      (r.replies ++ t.0) ++ more.0,
+      more.1,
+      subst (GivesFront before after) (sym (written-append (r.replies ++ t.0) more.0 ∙ ap (λ (zs : List ℕ). zs ++ written more.0) (written-append r.replies t.0))) front,
     )

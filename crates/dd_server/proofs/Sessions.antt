@@ -2,9 +2,8 @@
 use Rattle.std.proofs.Common.{◌≡◌, ℕ, List, Bool, true, false, ◌&&◌, not, refl, ap, sym, subst, Option, None}
 use Rattle.std.proofs.lemmas.Bool.{and_parts}
 use Rattle.std.specs.Prelude.{is_some, IsSome}
-use Rattle.dd_told.specs.Answers.{Job, Answers}
 use Rattle.dd_told.specs.Plain.{is_plain}
-use Rattle.dd_told.specs.Verdict.{verdict_of, job_under, Decides}
+use Rattle.dd_told.specs.Verdict.{Decides}
 use Rattle.dd_text.specs.Names.{names_a_thing}
 use Rattle.dd_text.specs.Symbols.{SymbolLists, number_of}
 use Rattle.dd_peer.specs.declared.version.Pin.{Pin}
@@ -14,10 +13,13 @@ use Rattle.dd_wire.specs.Accepted.{is_accepted, is_declared}
 use Rattle.dd_wire.specs.Forms as form
 use Rattle.dd_wire.specs.Requests.{declared_names}
 use Rattle.dd_wire.specs.declared.reply.Reply.TheVariants as reply
-use Rattle.dd_wire.specs.declared.request.Request.TheVariants as request
-use Rattle.dd_server.specs.Does.{Does}
-use Rattle.dd_server.specs.History.{Accepted, present_version, pin_of}
-use Rattle.dd_server.specs.Session.{is_yes, job_at}
+use Rattle.dd_world.specs.World.{Follows, IsCounter}
+use Rattle.dd_world.specs.declared.world.World.{World}
+use Rattle.dd_wire.specs.declared.reply.Reply.{Reply}
+use Rattle.dd_server.specs.declared.options.Options.{Options}
+use Rattle.dd_server.specs.Answers.{Answer, follows, fails, memory, Answers}
+use Rattle.dd_server.specs.History.{Accepted, present_version, pin_of, pinned_by}
+use Rattle.dd_server.specs.Session.{State, names_of, ask_at, Replied, FinishesAsk}
 use Rattle.dd_server.proofs.Only.{IsOne, declared_in, declared_some, single, only_number, pinned_only}
 
 -- the only peer is asked
@@ -32,17 +34,29 @@ open_ask o peer left right e v h b one accepted is =
         (and_parts (is_declared o peer && names_a_thing left && names_a_thing right) (not (is_some e))
         (and_parts (is_declared o peer && names_a_thing left && names_a_thing right && not (is_some e)) (not (is_some v)) accepted).0).0).0).0
 
-pub asked_does : (o : Option (List (List ℕ))) (h : List Accepted) (y : SymbolLists) (q : Query) (verdict : Bool) (pin : Pin) (id : ℕ) → IsSome o → IsOne o → Decides (present_version 0 h) q verdict
-    → pin.versions ≡ pin_of (declared_names o) h → (before : SymbolLists)
-    → Does (record { peers = o; symbols = before; history = h }) id y (request.Ask q None None) (record { peers = o; symbols = y; history = h }) (reply.Decided id verdict pin)
-asked_does o h y q verdict pin id some one decides pins before = (refl, verdict_of verdict, subst (λ (j : Job). Answers j (verdict_of verdict)) (sym same) decides, told verdict pins)
+-- what decides the question answers the ask
+pub asked_answered : (o : Options) (s : State) (q : Query) (verdict : Bool) (pin : Pin) (id : ℕ) → IsSome s.peers → IsOne s.peers → Decides (present_version 0 s.history) q verdict
+    → pin.versions ≡ pin_of (names_of s) s.history → FinishesAsk s (ask_at o s id q None None) s (reply.Decided id verdict pin)
+asked_answered o s q verdict pin id some one decides pins = by_verdict verdict (subst (λ (p : Pinned). DecidesUnder p verdict) (sym (pinned_only (names_of s) s.history (single s.peers some one))) decides)
   where
-    job : Pinned → Job
-    job p = record { pinned = p; query = q }
+    DecidesUnder : Pinned → Bool → Type 0
+    DecidesUnder p true = Follows p q
+    DecidesUnder p false = (w : World) × IsCounter p q w
 
-    same : job_at (record { peers = o; symbols = before; history = h }) (pin_of (declared_names o) h) q ≡ job_under (present_version 0 h) q
-    same = ap job (pinned_only (declared_names o) h (single o some one))
+    by_verdict : (b : Bool) → DecidesUnder (pinned_by (pin_of (names_of s) s.history) s.history) b → FinishesAsk s (ask_at o s id q None None) s (reply.Decided id b pin)
+    by_verdict true yes_is = (refl, follows, yes_is, ap (λ (vs : List ℕ). reply.Decided id true (record { versions = vs })) pins)
+    by_verdict false no_is = (refl, fails no_is.0, no_is.1, ap (λ (vs : List ℕ). reply.Decided id false (record { versions = vs })) pins)
 
-    told : (b : Bool) → pin.versions ≡ pin_of (declared_names o) h → reply.Decided id b pin ≡ reply.Decided id (is_yes (verdict_of b)) (record { versions = pin_of (declared_names o) h })
-    told true e = ap (λ (vs : List ℕ). reply.Decided id true (record { versions = vs })) e
-    told false e = ap (λ (vs : List ℕ). reply.Decided id false (record { versions = vs })) e
+-- memory was wanting
+pub asked_wanting : (o : Options) (s : State) (q : Query) (pin : Pin) (id : ℕ) → pin.versions ≡ pin_of (names_of s) s.history
+    → FinishesAsk s (ask_at o s id q None None) s (reply.Memory id pin)
+asked_wanting o s q pin id pins = (refl, memory, tt, ap (λ (vs : List ℕ). reply.Memory id (record { versions = vs })) pins)
+
+-- an answer does not depend on the budgets so far
+pub any_budget : (o : Options) (s t new : State) (id : ℕ) (q : Query) (e v : Option ℕ) (given : Reply) → FinishesAsk t (ask_at o s id q None None) new given → FinishesAsk t (ask_at o s id q e v) new given
+any_budget o s t new id q e v given h = let kind = by_kind h.1 h.2 h.3 in (h.0, h.1, kind.0, kind.1)
+  where
+    by_kind : (a : Answer) → Answers (ask_at o s id q None None) a → Replied (ask_at o s id q None None) a given → Answers (ask_at o s id q e v) a × Replied (ask_at o s id q e v) a given
+    by_kind follows is told = (is, told)
+    by_kind (fails w) is told = (is, told)
+    by_kind memory is told = (is, told)

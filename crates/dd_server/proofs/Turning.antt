@@ -1,5 +1,5 @@
 -- One request as a window of its own, and lines without a request.
-use Rattle.std.proofs.Common.{◌≡◌, ℕ, ◌+◌, ◌<◌, ◌≤◌, List, [], ◌∷◌, length, Bool, true, false, refl, ap, sym, ◌∙◌, subst, arith, None, Ok, Err}
+use Rattle.std.proofs.Common.{◌≡◌, ◌==◌, ℕ, ◌+◌, ◌<◌, ◌≤◌, List, [], ◌∷◌, length, Bool, true, false, refl, ap, sym, ◌∙◌, subst, arith, None, Ok, Err}
 use Rattle.std.proofs.lemmas.Bool.{le-leb, lt-leb}
 use Rattle.dd_wire.specs.Forms.{Written}
 use Rattle.dd_wire.specs.Lines.{form_in}
@@ -8,24 +8,29 @@ use Rattle.dd_wire.specs.Requests.{AfterForm}
 use Rattle.dd_wire.specs.declared.reply.Reply.{Reply}
 use Rattle.dd_wire.specs.declared.reply.Reply.TheVariants as reply
 use Rattle.dd_server.specs.Does.{AnsweredForm, AnsweredLine}
-use Rattle.dd_server.specs.Session.{State, Standing, Kept, finished, longest_line, is_blank, is_built, built_form, admitted, reads, WithRequest, Turns, Turn}
+use Rattle.dd_server.specs.declared.options.Options.{Options}
+use Rattle.dd_server.specs.Session.{State, Standing, Kept, finished, longest_line, is_blank, is_built, built_form, admitted, Finishes, Closes, Turns, Turn}
 
 -- the standing of a state between windows
 abbrev pub between : State → ℕ → Standing
 between s n = record { state = s; requests = n; kept = [] }
 
-pub turn_blank : (s : State) (n : ℕ) (line : List ℕ) → is_blank line ≡ true → Turn 1 (between s n) line (between s n) []
-turn_blank s n line h = subst (λ b. Turns b 1 (between s n) line (between s n) []) (sym h) (((refl, refl), refl), refl)
+pub turn_blank : (o : Options) (s : State) (n : ℕ) (line : List ℕ) → is_blank line ≡ true → Turn o (between s n) line (between s n) []
+turn_blank o s n line h = subst (λ b. Turns b o (between s n) line (between s n) []) (sym h) (((refl, refl), refl), refl)
 
-pub turn_answered : (s new : State) (n : ℕ) (line : List ℕ) (given : Reply) → is_blank line ≡ false → AnsweredLine s (n + 1) line new given
-    → Turn 1 (between s n) line (between new (n + 1)) (given ∷ [])
-turn_answered s new n line given h answered =
-    let same : (new, answered.2.0) ≡ reads s (n + 1) answered.0 = sym answered.2.1 in
-    subst (λ b. Turns b 1 (between s n) line (between new (n + 1)) (given ∷ [])) (sym h) (
-      answered.0,
-      answered.1,
-      subst (λ (r : State × Kept). WithRequest 1 (between s n) r (between new (n + 1)) (given ∷ [])) same
-          ((given, [], answered.2.2, (refl, refl), refl), refl),
+-- a window of one request ends with it
+closes_one : (w : ℕ) (mid : State) (kept : Kept) (new : State) (given : Reply) → w ≡ 1 → Finishes mid kept new given → Closes (1 == w) mid (kept ∷ []) new [] (given ∷ [])
+closes_one w mid kept new given one finishes = subst (λ (k : ℕ). Closes (1 == k) mid (kept ∷ []) new [] (given ∷ [])) (sym one)
+    ((new, given, [], finishes, (refl, refl), refl), refl)
+
+pub turn_answered : (o : Options) (s new : State) (n : ℕ) (line : List ℕ) (given : Reply) → o.window ≡ 1 → is_blank line ≡ false → AnsweredLine o s (n + 1) line new given
+    → Turn o (between s n) line (between new (n + 1)) (given ∷ [])
+turn_answered o s new n line given one h a = let t = a.2 in
+    subst (λ b. Turns b o (between s n) line (between new (n + 1)) (given ∷ [])) (sym h) (
+      t.0,
+      t.1,
+      (a.0, a.1, t.2),
+      closes_one o.window t.0 t.1 new given one t.3,
       refl,
     )
 
@@ -60,25 +65,25 @@ pub refused-form : (s : State) (line : List ℕ) (r : Refusal) → length line �
 refused-form s line r short e = short-form s line (Err r) short e
 
 -- a line whose form is refused gets that refusal, and nothing changes
-pub answered-refused : (s : State) (id : ℕ) (line : List ℕ) (e : Refusal) (given : Reply) → built_form s line ≡ Err e → given ≡ reply.Refused id e.code e.n
-    → AnsweredLine s id line s given
-answered-refused s id line e given is same = (
+pub answered-refused : (o : Options) (s : State) (id : ℕ) (line : List ℕ) (e : Refusal) (given : Reply) → built_form s line ≡ Err e → given ≡ reply.Refused id e.code e.n
+    → AnsweredLine o s id line s given
+answered-refused o s id line e given is same = (
   Err e,
   (
     Err e,
     subst (λ (t : Tested Written). AfterForm t s.peers s.symbols (Err e)) (sym is) refl,
     refl,
   ),
-  (finished (reply.Refused id e.code e.n), refl, same),
+  (s, finished (reply.Refused id e.code e.n), (refl, refl), (refl, same)),
 )
 
-pub answered-too_long : (s : State) (id : ℕ) (line : List ℕ) (given : Reply) → longest_line < length line → given ≡ reply.Refused id 16 None → AnsweredLine s id line s given
-answered-too_long s id line given h e = answered-refused s id line (refused 16) given (too_long-form s line h) e
+pub answered-too_long : (o : Options) (s : State) (id : ℕ) (line : List ℕ) (given : Reply) → longest_line < length line → given ≡ reply.Refused id 16 None → AnsweredLine o s id line s given
+answered-too_long o s id line given h e = answered-refused o s id line (refused 16) given (too_long-form s line h) e
 
 -- what is answered to the form of a line is answered to the line
-pub answered-form : (s new : State) (id : ℕ) (line : List ℕ) (w : Written) (given : Reply) → built_form s line ≡ Ok w → AnsweredForm s id w new given
-    → AnsweredLine s id line new given
-answered-form s new id line w given is answered = (
+pub answered-form : (o : Options) (s new : State) (id : ℕ) (line : List ℕ) (w : Written) (given : Reply) → built_form s line ≡ Ok w → AnsweredForm o s id w new given
+    → AnsweredLine o s id line new given
+answered-form o s new id line w given is answered = (
   answered.0 >>= admitted s,
   (
     answered.0,

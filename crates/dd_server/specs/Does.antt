@@ -2,11 +2,11 @@
 use Rattle.std.specs.Prelude.{◌≡◌, ℕ, ◌<◌, Bool, true, false, List, [], length, take, slice_get, Option, None, Some, IsSome, ⊤}
 use Rattle.serde_json.specs.View.{view}
 use Rattle.serde_json.specs.Data.{Data}
-use Rattle.dd_told.specs.Answers.{Job, Answer, Answers}
 use Rattle.dd_told.specs.Plain.{is_plain}
 use Rattle.dd_told.specs.Verdict.{AsksNames}
 use Rattle.dd_text.specs.Symbols.{SymbolLists}
 use Rattle.dd_text.specs.declared.symbols.Mark.{Mark}
+use Rattle.dd_peer.specs.Question.{Question}
 use Rattle.dd_peer.specs.Refusals.{refusal_of}
 use Rattle.dd_peer.specs.declared.check.PeerErr.{PeerErr}
 use Rattle.dd_peer.specs.declared.version.PeerVersion.{PeerVersion}
@@ -21,7 +21,8 @@ use Rattle.dd_wire.specs.declared.reply.Reply.TheVariants as reply
 use Rattle.dd_wire.specs.declared.request.Request.{Request}
 use Rattle.dd_wire.specs.declared.request.Request.TheVariants.{Peers, Put, Ask, Check, Versions}
 use Rattle.dd_server.specs.History.{present_version, pin_of, is_pin}
-use Rattle.dd_server.specs.Session.{State, Passes, admitted, Answered, refused_version, with_put, job_at, Judges, is_yes, names_of}
+use Rattle.dd_server.specs.declared.options.Options.{Options}
+use Rattle.dd_server.specs.Session.{State, Kept, Passes, admitted, Obeys, FinishesAsk, Finishes, refused_version, with_put, question_at, ask_at, Judges, names_of}
 
 -- symbols that are cut to the mark are those from before
 pub record CutsTo (m : Mark) (now before : SymbolLists) : Type 0 where
@@ -42,28 +43,31 @@ PutBy (Some e) old id s n v new given = (new ≡ old) × (given ≡ reply.Refuse
 PutBy None old id s n v new given = (new ≡ with_put old s n v)
     × (name : List ℕ) × (slice_get (names_of old) n ≡ Some name) × (given ≡ reply.Put id name 1)
 
-abbrev pub CheckBy : Bool → ℕ → Job → SymbolLists → Data → Reply → Type 0
-CheckBy true id job s cert given = Judges id job (cert_in s cert) given
-CheckBy false id job s cert given = given ≡ reply.Refused id bad_pin None
+abbrev pub CheckBy : Bool → ℕ → Question → SymbolLists → Data → Reply → Type 0
+CheckBy true id q s cert given = Judges id q (cert_in s cert) given
+CheckBy false id q s cert given = given ≡ reply.Refused id bad_pin None
 
--- what a request does to the state from before its symbols were added
-abbrev pub Does : State → ℕ → SymbolLists → Request → State → Reply → Type 0
-Does old id s (Peers names) new given = (new ≡ record old { peers = Some names; symbols = s }) × (given ≡ reply.Peers id (length names))
-Does old id s (Put n v) new given = PutBy (refusal_of v (length (names_of old)) n) old id s n v new given
-Does old id s (Ask q expansions verdicts) new given = (new ≡ record old { symbols = s }) × (answer : Answer)
-    × Answers (job_at old (pin_of (names_of old) old.history) q) answer
-    × (given ≡ reply.Decided id (is_yes answer) (record { versions = pin_of (names_of old) old.history }))
-Does old id s (Check q pin cert) new given = (new ≡ old)
-    × CheckBy (is_pin (names_of old) pin.versions old.history) id (job_at old pin.versions q) s (view cert) given
-Does old id s Versions new given = (new ≡ record old { symbols = s }) × (given ≡ reply.Refused id not_built None)
+-- what a request does to the state from before its symbols were added, as a window of its own
+abbrev pub DoesAlone : Options → State → ℕ → SymbolLists → Request → State → Reply → Type 0
+DoesAlone options old id s (Peers names) new given = (new ≡ record old { peers = Some names; symbols = s }) × (given ≡ reply.Peers id (length names))
+DoesAlone options old id s (Put n v) new given = PutBy (refusal_of v (length (names_of old)) n) old id s n v new given
+DoesAlone options old id s (Ask q expansions verdicts) new given =
+    FinishesAsk (record old { symbols = s }) (ask_at options old id q expansions verdicts) new given
+DoesAlone options old id s (Check q pin cert) new given = (new ≡ old)
+    × CheckBy (is_pin (names_of old) pin.versions old.history) id (question_at old pin.versions q) s (view cert) given
+DoesAlone options old id s Versions new given = (new ≡ record old { symbols = s }) × (given ≡ reply.Refused id not_built None)
 
--- ---- a form, and a line
+-- ---- what is found, a form, and a line
+
+-- this reply may be given to what the tests of a request found, as a window of its own
+abbrev pub Answered : Options → State → ℕ → Tested Resolved → State → Reply → Type 0
+Answered options old id found new given = (mid : State) × (kept : Kept) × Obeys options old id found mid kept × Finishes mid kept new given
 
 -- this reply may be given to a form that is built
-abbrev pub AnsweredForm : State → ℕ → Written → State → Reply → Type 0
-AnsweredForm old id w new given = (texts : Tested Resolved) × Tests old.peers old.symbols w texts
-    × Answered old id (texts >>= admitted old) new given
+abbrev pub AnsweredForm : Options → State → ℕ → Written → State → Reply → Type 0
+AnsweredForm options old id w new given = (texts : Tested Resolved) × Tests old.peers old.symbols w texts
+    × Answered options old id (texts >>= admitted old) new given
 
 -- this reply may be given to a line that is a request
-abbrev pub AnsweredLine : State → ℕ → List ℕ → State → Reply → Type 0
-AnsweredLine old id line new given = (found : Tested Resolved) × Passes old line found × Answered old id found new given
+abbrev pub AnsweredLine : Options → State → ℕ → List ℕ → State → Reply → Type 0
+AnsweredLine options old id line new given = (found : Tested Resolved) × Passes old line found × Answered options old id found new given

@@ -2,7 +2,7 @@
 use Rattle.std.specs.Prelude.{ℕ, ◌+◌, ◌-◌, ◌==◌, ◌&&◌, nat_le, Bool, true, List, [], ◌∷◌, length, map, filter, slice_get, unwrap_or, if◌then◌else◌}
 use Rattle.dd_peer.specs.declared.version.PeerVersion.{PeerVersion}
 use Rattle.dd_peer.specs.declared.version.Pinned.{Pinned}
-use Rattle.dd_told.specs.Verdict.{empty_version}
+use Rattle.dd_peer.specs.Versions.{empty_version}
 
 -- an accepted put: the peer's number and its new version
 pub record Accepted : Type 0 where

@@ -1,22 +1,15 @@
 -- For private clauses: the replies to checks.
 use Rattle.std.specs.Prelude.{◌≡◌, ℕ, Result, Ok, Err}
 use Rattle.dd_world.specs.declared.world.WorldFault.{WorldFault}
-use Rattle.dd_told.specs.Answers.{Job}
 use Rattle.dd_cert.specs.Certificates.{Tried, Certified}
-use Rattle.dd_cert.specs.declared.read.Cert.{Cert}
-use Rattle.dd_cert.specs.declared.read.Cert.TheVariants as cert
 use Rattle.dd_wire.specs.declared.reply.Reply.{Reply}
 use Rattle.dd_wire.specs.declared.reply.Reply.TheVariants as reply
-use Rattle.dd_server.specs.Session.{fault_replied, JudgesWorld, IsUnread}
+use Rattle.dd_server.specs.Session.{fault_replied, IsUnread}
 
 -- the reply tells what a judge answered
 abbrev pub JudgedBy : ℕ → Result (Unit {0}) WorldFault → Reply → Type 0
 JudgedBy id (Ok u) given = given ≡ reply.Valid id
 JudgedBy id (Err f) given = given ≡ reply.InvalidWorld id (fault_replied f)
-
--- the reply tells of the world that a certificate is
-abbrev pub JudgesCert : ℕ → Job → Cert → Reply → Type 0
-JudgesCert id job (cert.No w) given = JudgesWorld id job w given
 
 -- the reply tells where a value stops to be a certificate
 abbrev pub Unreads : ℕ → Tried Certified → Reply → Type 0

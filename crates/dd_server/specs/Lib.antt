@@ -1,6 +1,9 @@
+pub mod Options
 pub mod History
+pub mod Answers
 pub mod Session
-pub mod SessionState
+pub mod Laws
+pub mod ServerState
 pub mod Status
 pub mod Headline
 pub mod Turns

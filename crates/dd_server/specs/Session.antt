@@ -1,12 +1,12 @@
 -- A session: how a line changes the state and what is replied to it, window by window.
-use Rattle.std.specs.Prelude.{◌≡◌, ℕ, ◌+◌, ◌==◌, ◌&&◌, ◌⊎◌, Bool, true, false, nat_le, List, [], ◌∷◌, ◌++◌, length, Option, None, Some, Ok, Err}
+use Rattle.std.specs.Prelude.{◌≡◌, ℕ, ◌+◌, ◌==◌, ◌&&◌, ◌⊎◌, Bool, true, false, nat_le, List, [], ◌∷◌, ◌++◌, length, Option, None, Some, unwrap_or, Ok, Err}
 use denote.Bor.{Bor}
 use Rattle.std.specs.List.{flat_map}
 use Rattle.dd_lines.specs.Lines.{lines_of}
-use Rattle.dd_told.specs.Answers.{Job, Answer, follows, fails, Answers}
 use Rattle.dd_told.specs.Plain.{is_plain}
 use Rattle.dd_text.specs.Reads.{told}
 use Rattle.dd_text.specs.Symbols.{SymbolLists, number_of}
+use Rattle.dd_peer.specs.Question.{Question}
 use Rattle.dd_peer.specs.Refusals.{refusal_of}
 use Rattle.dd_peer.specs.declared.check.PeerErr.{PeerErr}
 use Rattle.dd_peer.specs.declared.check.PeerErr.TheVariants.{SamePeer, UnknownPeer, TooManyAxioms, TooManyRules}
@@ -17,6 +17,8 @@ use Rattle.dd_world.specs.World.{IsCounter}
 use Rattle.dd_world.specs.declared.world.World.{World}
 use Rattle.dd_world.specs.declared.world.WorldFault.{WorldFault}
 use Rattle.dd_world.specs.declared.world.WorldFault.TheVariants as fault
+use Rattle.dd_cert.specs.declared.read.Cert.{Cert}
+use Rattle.dd_cert.specs.declared.read.Cert.TheVariants as cert
 use Rattle.dd_cert.specs.Certificates.{Tried, Certified, Unreadable, field, place, text, full, cert_in}
 use Rattle.dd_wire.specs.Accepted.{is_accepted, is_empty}
 use Rattle.dd_wire.specs.Forms.{Written}
@@ -32,6 +34,8 @@ use Rattle.dd_wire.specs.declared.reply.BadWorld.TheVariants as bad
 use Rattle.dd_wire.specs.declared.reply.Unread.TheVariants as unread
 use Rattle.dd_wire.specs.declared.reply.Reply.{Reply}
 use Rattle.dd_wire.specs.declared.reply.Reply.TheVariants as reply
+use Rattle.dd_server.specs.Answers.{Ask, Answer, follows, fails, memory, Answers}
+use Rattle.dd_server.specs.declared.options.Options.{Options}
 use Rattle.dd_server.specs.History.{Accepted, last_version, present_version, pin_of, pinned_by, is_pin}
 
 abbrev pub longest_line : ℕ
@@ -51,12 +55,10 @@ start = record { peers = None; symbols = record { names = []; roles = [] }; hist
 abbrev pub names_of : State → List (List ℕ)
 names_of state = declared_names state.peers
 
--- what the requests of a window leave for its end: a finished reply; an ask with its number, its pin and its job; or a
--- check with its number, its job, and the world that its certificate is
+-- what a request leaves for the end of its window: a finished reply, or an ask
 pub data Kept : Type 0 where
   finished : Reply → Kept
-  asked : ℕ → List ℕ → Job → Kept
-  judged : ℕ → Job → Tried Certified → Kept
+  asked : Ask → Kept
 
 -- ---- the tests of a line, in their order: the first that fails refuses it
 
@@ -115,38 +117,19 @@ with_put state s peer version = record {
   history = state.history ++ record { peer = peer; version = version } ∷ [];
 }
 
--- a job under a pin
-abbrev pub job_at : State → List ℕ → Query → Job
-job_at state pin query = record { pinned = pinned_by pin state.history; query = query }
+-- a question under a pin
+abbrev pub question_at : State → List ℕ → Query → Question
+question_at state pin query = record { pinned = pinned_by pin state.history; query = query }
 
--- an ask is kept with its job under the pin of this moment
-abbrev pub with_ask : State → SymbolLists → ℕ → Query → State × Kept
-with_ask state s id query = let pin = pin_of (names_of state) state.history in
-    (record state { symbols = s }, asked id pin (job_at state pin query))
-
--- what an accepted request does, whose symbols have been added; a check leaves the symbols as they were
-abbrev pub does : State → ℕ → SymbolLists → Parsed → State × Kept
-does state id s (parsed.peers names) = (record state { peers = Some names }, finished (reply.Peers id (length names)))
-does state id s (parsed.put peer axioms into onto) =
-    let n = number_of (names_of state) peer in
-    let new = with_put state s n (version_of (names_of state) s axioms into onto) in
-    (new, finished (reply.Put id peer (last_version n new.history)))
-does state id s (parsed.ask peer left right expansions verdicts) = with_ask state s id (query_of (names_of state) s peer left right)
-does state id s (parsed.check peer left right pin cert) =
-    (state, judged id (job_at state pin (query_of (names_of state) s peer left right)) (cert_in s cert))
--- no test lets it through so far
-does state id s parsed.versions = (state, finished (reply.Refused id not_built None))
-
--- a refused line changes nothing
-abbrev pub reads : State → ℕ → Tested Resolved → State × Kept
-reads state id (Ok r) = does state id r.symbols r.request
-reads state id (Err e) = (state, finished (reply.Refused id e.code e.n))
-
--- ---- finishing a window
-
-abbrev pub is_yes : Answer → Bool
-is_yes follows = true
-is_yes fails = false
+-- an ask under the pin of this moment; a budget that it does not name is that of the options
+abbrev pub ask_at : Options → State → ℕ → Query → Option ℕ → Option ℕ → Ask
+ask_at options state id query expansions verdicts = let pin = pin_of (names_of state) state.history in record {
+  id = id;
+  pin = pin;
+  question = question_at state pin query;
+  expansions = unwrap_or expansions options.expansions;
+  verdicts = unwrap_or verdicts options.verdicts;
+}
 
 -- why a world is no countermodel, as it is replied
 abbrev pub fault_replied : WorldFault → BadWorld
@@ -157,9 +140,13 @@ fault_replied (fault.Onto peer index) = bad.Onto index peer
 fault_replied fault.NotCounter = bad.NotCounter
 
 -- a check of a world is valid exactly where the world is a countermodel, and else its first fault is replied
-abbrev pub JudgesWorld : ℕ → Job → World → Reply → Type 0
-JudgesWorld id job w given = ((given ≡ reply.Valid id) × IsCounter job.pinned job.query w)
-    ⊎ ((f : WorldFault) × IsFirstFault job.pinned job.query w f × (given ≡ reply.InvalidWorld id (fault_replied f)))
+abbrev pub JudgesWorld : ℕ → Question → World → Reply → Type 0
+JudgesWorld id q w given = ((given ≡ reply.Valid id) × IsCounter q.pinned q.query w)
+    ⊎ ((f : WorldFault) × IsFirstFault q.pinned q.query w f × (given ≡ reply.InvalidWorld id (fault_replied f)))
+
+-- the reply tells of what a certificate is evidence of, by its kind
+abbrev pub JudgesCert : ℕ → Question → Cert → Reply → Type 0
+JudgesCert id q (cert.No w) given = JudgesWorld id q w given
 
 -- where a value stops to be a certificate, as it is replied; where it brings too many symbols the request is refused
 abbrev pub IsUnread : ℕ → Unreadable → Reply → Type 0
@@ -169,24 +156,57 @@ IsUnread id (text at) given = given ≡ reply.Unreadable id (unread.Text (told a
 IsUnread id full given = given ≡ reply.Refused id symbols_full None
 
 -- what is replied to a check, by the world that its certificate is, or where the certificate stops to be one
-abbrev pub Judges : ℕ → Job → Tried Certified → Reply → Type 0
-Judges id job (Ok c) given = JudgesWorld id job c.world given
-Judges id job (Err e) given = IsUnread id e given
+abbrev pub Judges : ℕ → Question → Tried Certified → Reply → Type 0
+Judges id q (Ok c) given = JudgesCert id q c.cert given
+Judges id q (Err e) given = IsUnread id e given
 
-abbrev pub Finished : Kept → Reply → Type 0
-Finished (finished done) given = given ≡ done
-Finished (asked id pin job) given = (answer : Answer) × Answers job answer
-    × (given ≡ reply.Decided id (is_yes answer) (record { versions = pin }))
-Finished (judged id job found) given = Judges id job found given
+-- What an accepted request does, whose symbols have been added, and what it leaves. A check is judged here, and the
+-- symbols are as they were.
+abbrev pub Does : Options → State → ℕ → SymbolLists → Parsed → State → Kept → Type 0
+Does options old id s (parsed.peers names) new kept =
+    (new ≡ record old { peers = Some names }) × (kept ≡ finished (reply.Peers id (length names)))
+Does options old id s (parsed.put peer axioms into onto) new kept = let n = number_of (names_of old) peer in
+    (new ≡ with_put old s n (version_of (names_of old) s axioms into onto))
+    × (kept ≡ finished (reply.Put id peer (last_version n new.history)))
+Does options old id s (parsed.ask peer left right expansions verdicts) new kept =
+    (new ≡ record old { symbols = s })
+    × (kept ≡ asked (ask_at options old id (query_of (names_of old) s peer left right) expansions verdicts))
+Does options old id s (parsed.check peer left right pin cert) new kept =
+    (new ≡ old) × (given : Reply) × (kept ≡ finished given)
+    × Judges id (question_at old pin (query_of (names_of old) s peer left right)) (cert_in s cert) given
+-- no test lets it through so far
+Does options old id s parsed.versions new kept = (new ≡ old) × (kept ≡ finished (reply.Refused id not_built None))
 
--- this reply may be given to what the tests of a request found, as a window of its own
-abbrev pub Answered : State → ℕ → Tested Resolved → State → Reply → Type 0
-Answered old id found new reply = (kept : Kept) × (reads old id found ≡ (new, kept)) × Finished kept reply
+-- what the tests of a line found is done; a refusal changes nothing
+abbrev pub Obeys : Options → State → ℕ → Tested Resolved → State → Kept → Type 0
+Obeys options old id (Ok r) new kept = Does options old id r.symbols r.request new kept
+Obeys options old id (Err e) new kept = (new ≡ old) × (kept ≡ finished (reply.Refused id e.code e.n))
 
--- the replies of what was kept, in request order
+-- a line that is a request is read: its tests decide what is done
+abbrev pub Read : Options → State → ℕ → List ℕ → State → Kept → Type 0
+Read options old id line new kept = (found : Tested Resolved) × Passes old line found × Obeys options old id found new kept
+
+-- ---- finishing a window
+
+-- the reply to an ask that has this answer
+abbrev pub Replied : Ask → Answer → Reply → Type 0
+Replied ask follows given = given ≡ reply.Decided ask.id true (record { versions = ask.pin })
+Replied ask (fails w) given = given ≡ reply.Decided ask.id false (record { versions = ask.pin })
+Replied ask memory given = given ≡ reply.Memory ask.id (record { versions = ask.pin })
+
+-- an ask is finished by one of its answers, and the state stays
+abbrev pub FinishesAsk : State → Ask → State → Reply → Type 0
+FinishesAsk old ask new given = (new ≡ old) × (answer : Answer) × Answers ask answer × Replied ask answer given
+
+abbrev pub Finishes : State → Kept → State → Reply → Type 0
+Finishes old (finished done) new given = (new ≡ old) × (given ≡ done)
+Finishes old (asked ask) new given = FinishesAsk old ask new given
+
+-- the replies of what was kept, in request order, and the state that each leaves to the next
 abbrev pub Finish : State → List Kept → State → List Reply → Type 0
 Finish old [] new replies = (new ≡ old) × (replies ≡ [])
-Finish old (k ∷ ks) new replies = (first : Reply) × (more : List Reply) × Finished k first × Finish old ks new more × (replies ≡ first ∷ more)
+Finish old (k ∷ ks) new replies = (mid : State) × (first : Reply) × (more : List Reply)
+    × Finishes old k mid first × Finish mid ks new more × (replies ≡ first ∷ more)
 
 -- ---- the whole session
 
@@ -207,32 +227,33 @@ pub record Standing : Type 0 where
   pub requests : ℕ
   pub kept : List Kept
 
--- a window goes on or ends with what was read of one more request
-abbrev pub WithRequest : ℕ → Standing → State × Kept → Standing → List Reply → Type 0
-WithRequest window old read new replies = let kept = old.kept ++ read.1 ∷ [] in
-    Closes (length kept == window) read.0 kept new.state new.kept replies
+-- a window goes on, or ends where it has all its requests, with what one more request left
+abbrev pub WithKept : Options → Standing → State → Kept → Standing → List Reply → Type 0
+WithKept options old mid kept new replies = let all = old.kept ++ kept ∷ [] in
+    Closes (length all == options.window) mid all new.state new.kept replies
 
-abbrev pub Turns : Bool → ℕ → Standing → List ℕ → Standing → List Reply → Type 0
-Turns true window old line new replies = Closes true old.state old.kept new.state new.kept replies × (new.requests ≡ old.requests)
-Turns false window old line new replies = (found : Tested Resolved) × Passes old.state line found
-    × WithRequest window old (reads old.state (old.requests + 1) found) new replies × (new.requests ≡ old.requests + 1)
+abbrev pub Turns : Bool → Options → Standing → List ℕ → Standing → List Reply → Type 0
+Turns true options old line new replies = Closes true old.state old.kept new.state new.kept replies × (new.requests ≡ old.requests)
+Turns false options old line new replies = (mid : State) × (kept : Kept) × Read options old.state (old.requests + 1) line mid kept
+    × WithKept options old mid kept new replies × (new.requests ≡ old.requests + 1)
 
 -- what one line does, and the replies that are given when it ends a window
-abbrev pub Turn : ℕ → Standing → List ℕ → Standing → List Reply → Type 0
-Turn window old line new replies = Turns (is_blank line) window old line new replies
+abbrev pub Turn : Options → Standing → List ℕ → Standing → List Reply → Type 0
+Turn options old line new replies = Turns (is_blank line) options old line new replies
 
--- the replies that may be given from here on for these lines
-abbrev pub From : ℕ → Standing → List (List ℕ) → List Reply → Type 0
-From window old [] replies = (new : State) × Finish old.state old.kept new replies
-From window old (line ∷ lines) replies = (new : Standing) × (first : List Reply) × (more : List Reply)
-    × Turn window old line new first × From window new lines more × (replies ≡ first ++ more)
+-- the replies of the windows that these lines end, and where the session stands behind them
+abbrev pub Through : Options → Standing → List (List ℕ) → Standing → List Reply → Type 0
+Through options old [] new replies = (new ≡ old) × (replies ≡ [])
+Through options old (line ∷ lines) new replies = (mid : Standing) × (first : List Reply) × (more : List Reply)
+    × Turn options old line mid first × Through options mid lines new more × (replies ≡ first ++ more)
 
 abbrev pub opening : Standing
 opening = record { state = start; requests = 0; kept = [] }
 
--- the replies that may be given for an input, with windows of so many requests
-abbrev pub Session : ℕ → List ℕ → List Reply → Type 0
-Session window input replies = From window opening (lines_of input) replies
+-- the replies that may be given for an input: those of the windows that its lines end, and of the last one
+abbrev pub Session : Options → List ℕ → List Reply → Type 0
+Session options input replies = (last : Standing) × (ended : List Reply) × (state : State) × (more : List Reply)
+    × Through options opening (lines_of input) last ended × Finish last.state last.kept state more × (replies ≡ ended ++ more)
 
 -- the replies as they are written, each with a line feed
 abbrev pub written : List Reply → List ℕ

@@ -1,18 +1,17 @@
 ghost use Rattle.std.specs.Prelude.{◌≡◌, ◌<◌, ◌+◌, ◌^◌, IfOk, OnErr, All, length, Result};
 ghost use Rattle.serde_json.specs.View.{view};
-ghost use Rattle.dd_told.specs.Answers.{Job};
 ghost use Rattle.dd_text.specs.Symbols.{Grows};
 ghost use Rattle.dd_cert.specs.Certificates.{Tells, cert_in, Certified, Tried};
 ghost use Rattle.dd_world.specs.Faults.{judged_by, fault_of};
-ghost use Rattle.dd_server.specs.Session.{Judges, fault_replied};
-ghost use Rattle.dd_server.specs.Judged.{JudgedBy, JudgesCert, Unreads};
+ghost use Rattle.dd_server.specs.Session.{Judges, JudgesCert, fault_replied};
+ghost use Rattle.dd_server.specs.Judged.{JudgedBy, Unreads};
 
 use dd_cert::{Cert, CertErr, read_cert};
 use dd_concept::NoMemory;
 use dd_peer::{Pinned, Query};
 use dd_text::Symbols;
 use dd_wire::{BadWorld, Reply, SYMBOLS_FULL, Unread};
-use dd_world::{WorldFault, check_world};
+use dd_world::{WorldFault, judge_world};
 use serde_json::Value;
 use std::alloc::Global;
 
@@ -34,20 +33,29 @@ pub fn judge(
 {
     let _mark = symbols.mark();
     match read_cert(alloc, symbols, cert) {
-        Ok(cert) => Ok(judge_cert(id, pinned, query, cert)),
+        Ok(cert) => judge_cert(alloc, id, pinned, query, cert),
         Err(e) => unread(id, e),
     }
 }
 
 /// The reply where a certificate was read.
-fn judge_cert(id: u64, pinned: &Pinned, query: &Query, cert: Cert) -> Reply
+fn judge_cert(
+    alloc: Global,
+    id: u64,
+    pinned: &Pinned,
+    query: &Query,
+    cert: Cert,
+) -> Result<Reply, NoMemory>
     requires peers { length pinned.now.peers < 2 ^ 32 }
     requires axioms { All (λ v. length v.axioms < 2 ^ 32) pinned.now.peers }
     requires rules { All (λ v. length v.into + length v.onto < 2 ^ 32) pinned.now.peers }
-    ensures { JudgesCert id (record { pinned = pinned.now; query = query.now }) cert result }
+    ensures { IfOk result (JudgesCert id (record { pinned = pinned.now; query = query.now }) cert) }
 {
     match cert {
-        Cert::No(world) => judged(id, check_world(pinned, query, &world)),
+        Cert::No(world) => {
+            let verdict = judge_world(alloc, pinned, query, &world)?;
+            Ok(judged(id, verdict))
+        }
     }
 }
 

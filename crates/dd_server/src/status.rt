@@ -8,13 +8,13 @@ pub enum Status {
     Done,
     /// The words are no command. Nothing was read or written.
     Words,
-    /// The source failed. What was given is the replies to the lines before.
+    /// The source failed. What was given is the replies of the windows that had ended.
     ReadFault,
     /// The sink failed. What was given is a front of the replies.
     WriteFault,
-    /// There was no memory. What was given is the replies to the lines before.
+    /// There was no memory. What was given is the first replies of the session, each one whole.
     Memory,
-    /// The source gave more bytes than a session reads. What was given is the replies to the lines before.
+    /// The source gave more bytes than a session reads. What was given is the replies of the windows that had ended.
     TooMuch,
 }
 

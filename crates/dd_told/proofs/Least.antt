@@ -16,69 +16,9 @@ pub record IsLeast (pairs : List (ℕ × ℕ)) (first : ℕ) (ns : List ℕ) : T
   pub closed : All (Passes (λ n. is_among n ns)) pairs
   pub least : (test : ℕ → Bool) → test first ≡ true → All (Passes test) pairs → All (λ n. test n ≡ true) ns
 
-among-append_left : (n : ℕ) (xs ys : List ℕ) → is_among n xs ≡ true → is_among n (xs ++ ys) ≡ true
-among-append_left n xs ys h = list_any-append (λ m. nat_eq m n) xs ys ∙ or_left (is_among n xs) (is_among n ys) h
-
-among-append_right : (n : ℕ) (xs ys : List ℕ) → is_among n ys ≡ true → is_among n (xs ++ ys) ≡ true
-among-append_right n xs ys h = list_any-append (λ m. nat_eq m n) xs ys ∙ or_right (is_among n xs) (is_among n ys) h
-
-among-append_cases : (n : ℕ) (xs ys : List ℕ) → is_among n (xs ++ ys) ≡ true → (is_among n xs ≡ true) ⊎ (is_among n ys ≡ true)
-among-append_cases n xs ys h = or_cases (is_among n xs) (is_among n ys) (sym (list_any-append (λ m. nat_eq m n) xs ys) ∙ h)
-
--- what two sets are closed under, both together are
-passes_both : (xs ys : List ℕ) (p : ℕ × ℕ) → Passes (λ n. is_among n xs) p → Passes (λ n. is_among n ys) p → Passes (λ n. is_among n (xs ++ ys)) p
-passes_both xs ys p f g h = elim (among-append_cases p.0 xs ys h) [
-  | inl a ↦ among-append_left p.1 xs ys (f a)
-  | inr b ↦ among-append_right p.1 xs ys (g b)
-]
-
-all_pass_both : (xs ys : List ℕ) (ps : List (ℕ × ℕ)) → All (Passes (λ n. is_among n xs)) ps → All (Passes (λ n. is_among n ys)) ps → All (Passes (λ n. is_among n (xs ++ ys))) ps
-all_pass_both xs ys ps f g k d h = passes_both xs ys (get_or ps k d) (f k d h) (g k d h)
-
 -- a number of a list whose numbers all pass a test passes it
 pub among-passes : (test : ℕ → Bool) (ns : List ℕ) (n : ℕ) → All (λ m. test m ≡ true) ns → is_among n ns ≡ true → test n ≡ true
 among-passes test ns n all among = let p = place_of n ns among in subst (λ m. test m ≡ true) p.2 (all p.0 0 p.1)
-
--- there is a least set, by recursion on the pairs: where the first pair's left number is reached, what its right one reaches comes too
-pub least_of : (pairs : List (ℕ × ℕ)) (first : ℕ) → (ns : List ℕ) × IsLeast pairs first ns
-least_of [] first = (
-  first ∷ [],
-  record {
-    has_first = or_left (nat_eq first first) false (eq-eqb first first refl);
-    closed = All-nil (Passes (λ n. is_among n (first ∷ [])));
-    least = λ test start closed. All-cons (λ n. test n ≡ true) first [] start (All-nil (λ n. test n ≡ true));
-  },
-)
-least_of (p ∷ ps) first =
-    let one = least_of ps first in
-    let two = least_of ps p.1 in
-    elim (cases_Bool (is_among p.0 one.0)) [
-      | inl there ↦ (
-        one.0 ++ two.0,
-        record {
-          has_first = among-append_left first one.0 two.0 one.1.has_first;
-          closed = All-cons (Passes (λ n. is_among n (one.0 ++ two.0))) p ps
-              (λ _. among-append_right p.1 one.0 two.0 two.1.has_first)
-              (all_pass_both one.0 two.0 ps one.1.closed two.1.closed);
-          least = λ test start closed.
-              let rest = All-tail (Passes test) p ps closed in
-              let here = one.1.least test start rest in
-              All-append (λ n. test n ≡ true) one.0 two.0 here
-              (two.1.least test (All-head (Passes test) p ps closed (among-passes test one.0 p.0 here there)) rest);
-        },
-      )
-      | inr away ↦ (
-        one.0,
-        record {
-          has_first = one.1.has_first;
-          closed = All-cons (Passes (λ n. is_among n one.0)) p ps (λ there. absurd (both-ways (is_among p.0 one.0) there away)) one.1.closed;
-          least = λ test start closed. one.1.least test start (All-tail (Passes test) p ps closed);
-        },
-      )
-    ]
-  where
-    both-ways : (b : Bool) → b ≡ true → b ≡ false → ⊥
-    both-ways b t f = let e : true ≡ false = sym t ∙ f in cc e
 
 -- ---- from rows to pairs
 

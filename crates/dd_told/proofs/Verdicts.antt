@@ -14,12 +14,11 @@ use Rattle.dd_peer.specs.declared.version.Query.{Query}
 use Rattle.dd_concept.specs.declared.concept.Axiom.{Axiom}
 use Rattle.dd_world.specs.declared.world.World.{World}
 use Rattle.dd_world.specs.World.{IsLink, SatisfiesAt, SatisfiesInto, SatisfiesOnto, SatisfiesVersion, Follows, IsCounter}
-use Rattle.dd_told.specs.Answers.{Answer, Answers}
+use Rattle.dd_world.proofs.Decided.{size_is, holds_is, local_of}
 use Rattle.dd_told.specs.IsIndexed.{IsIndexed}
-use Rattle.dd_peer.specs.declared.version.Pinned.{Pinned}
 use Rattle.dd_told.specs.Above.{is_among, IsLeastClosed, axiom_of_pair, version_of_pairs}
-use Rattle.dd_told.specs.Verdict.{names_query, pairs_job, verdict_of, Decides}
-use Rattle.dd_told.proofs.Least.{IsLeast, Passes, least_of, among-passes, least_from_rows}
+use Rattle.dd_told.specs.Verdict.{names_query, pinned_alone, Decides}
+use Rattle.dd_told.proofs.Least.{IsLeast, Passes, among-passes, least_from_rows}
 
 -- ---- what is reached follows
 
@@ -38,18 +37,19 @@ follows_local : (pairs : List (ℕ × ℕ)) (left right : ℕ) (ns : List ℕ) �
 follows_local pairs left right ns least among i sat x within holds =
     among-passes (has i x) ns right (least.least (has i x) holds (has_passes i pairs sat x within)) among
 
--- one version alone
-abbrev pub only : List (ℕ × ℕ) → Pinned
-only pairs = record { peers = version_of_pairs pairs ∷ [] }
-
 satisfies_only : (i : Interp) (w : World) (axioms : List Axiom) → slice_get w.locals 0 ≡ Some i → All (SatisfiesAt w 0) axioms → SatisfiesAxioms i axioms
-satisfies_only i w axioms local sat = λ k d inside. sat k d inside i local
+satisfies_only i w axioms local sat = λ k d inside x within left. sym (holds_is w 0 i local x (get_or axioms k d).right)
+    ∙ sat k d inside x (subst (λ n. x < n) (sym (size_is w 0 i local)) within) (holds_is w 0 i local x (get_or axioms k d).left ∙ left)
 
 pub reached_follows : (pairs : List (ℕ × ℕ)) (left right : ℕ) (ns : List ℕ) → IsLeast pairs left ns → is_among right ns ≡ true
-    → Follows (only pairs) (names_query left right)
-reached_follows pairs left right ns least among w world sat i local x within holds =
-    follows_local pairs left right ns least among i
-    (satisfies_only i w (map axiom_of_pair pairs) local (sat 0 (version_of_pairs pairs) refl).axioms) x within holds
+    → Follows (pinned_alone (version_of_pairs pairs)) (names_query left right)
+reached_follows pairs left right ns least among w world sat x within holds =
+    let found = local_of w 0 x within in
+    let i : Interp = found.0 in
+    holds_is w 0 i found.1 x (Name right)
+    ∙ follows_local pairs left right ns least among i
+    (satisfies_only i w (map axiom_of_pair pairs) found.1 (sat 0 (version_of_pairs pairs) refl).axioms) x (subst (λ n. x < n) (size_is w 0 i found.1) within)
+    (sym (holds_is w 0 i found.1 x (Name left)) ∙ holds)
 
 -- ---- what is reached makes a countermodel
 
@@ -89,12 +89,7 @@ abbrev pub world_with : Interp → World
 world_with i = record { locals = i ∷ []; links = [] }
 
 satisfies_at : (i : Interp) (axioms : List Axiom) → SatisfiesAxioms i axioms → All (SatisfiesAt (world_with i) 0) axioms
-satisfies_at i axioms sat = λ k d inside j local.
-    let same : i ≡ j = first local in
-    subst (λ (m : Interp). SatisfiesAxiom m (get_or axioms k d)) same (sat k d inside)
-  where
-    first : {j : Interp} → slice_get (i ∷ []) 0 ≡ Some j → i ≡ j
-    first e = cc e
+satisfies_at i axioms sat = sat
 
 satisfies_world : (pairs : List (ℕ × ℕ)) (i : Interp) → SatisfiesAxioms i (map axiom_of_pair pairs)
     → (j : ℕ) (v : PeerVersion) → slice_get (version_of_pairs pairs ∷ []) j ≡ Some v → SatisfiesVersion (world_with i) j v
@@ -109,7 +104,7 @@ satisfies_world pairs i sat zero v e = subst (SatisfiesVersion (world_with i) 0)
 satisfies_world pairs i sat (suc j) v e = cc e
 
 pub unreached_fails : (pairs : List (ℕ × ℕ)) (left right : ℕ) (ns : List ℕ) → IsLeast pairs left ns → is_among right ns ≡ false
-    → (w : World) × IsCounter (only pairs) (names_query left right) w
+    → (w : World) × IsCounter (pinned_alone (version_of_pairs pairs)) (names_query left right) w
 unreached_fails pairs left right ns least away = (
   world_with (one_element ns),
   record {
@@ -120,9 +115,7 @@ unreached_fails pairs left right ns least away = (
     };
     satisfies = satisfies_world pairs (one_element ns) (one_satisfies pairs left ns least);
     element = (
-      one_element ns,
       0,
-      refl,
       record {
         within = omega arith;
         has_left = has_one ns left ∙ least.has_first;
@@ -137,10 +130,10 @@ unreached_fails pairs left right ns least away = (
 
 -- ---- verdicts
 
-pub answers_reached : (pairs : List (ℕ × ℕ)) (left right : ℕ) (ns : List ℕ) → IsLeast pairs left ns → Answers (pairs_job pairs left right) (verdict_of (is_among right ns))
+pub answers_reached : (pairs : List (ℕ × ℕ)) (left right : ℕ) (ns : List ℕ) → IsLeast pairs left ns → Decides (version_of_pairs pairs) (names_query left right) (is_among right ns)
 answers_reached pairs left right ns least = elim (cases_Bool (is_among right ns)) [
-  | inl h ↦ subst (λ b. Answers (pairs_job pairs left right) (verdict_of b)) (sym h) (reached_follows pairs left right ns least h)
-  | inr h ↦ subst (λ b. Answers (pairs_job pairs left right) (verdict_of b)) (sym h) (unreached_fails pairs left right ns least h)
+  | inl h ↦ subst (λ b. Decides (version_of_pairs pairs) (names_query left right) b) (sym h) (reached_follows pairs left right ns least h)
+  | inr h ↦ subst (λ b. Decides (version_of_pairs pairs) (names_query left right) b) (sym h) (unreached_fails pairs left right ns least h)
 ]
 
 -- what a walk over the rows of an index finds decides the question
@@ -149,14 +142,10 @@ pub walk_decides : (rows : List (List ℕ)) (v : PeerVersion) (q : Query) (left 
 walk_decides rows v q left right found asks index walked =
     subst (λ (r : Query). Decides v r found) (sym asks)
     (subst (λ (u : PeerVersion). Decides u (names_query left right) found) (sym index.version)
-    (subst (λ b. Answers (pairs_job index.pairs left right) (verdict_of b)) (sym walked.2)
+    (subst (λ b. Decides (version_of_pairs index.pairs) (names_query left right) b) (sym walked.2)
     (answers_reached index.pairs left right walked.0 (least_from_rows rows index.pairs left walked.0 index.rows_are walked.1))))
 
 pub walk_decides_ok : {E : Type 0} (rows : List (List ℕ)) (v : PeerVersion) (q : Query) (left right : ℕ) (r : Result Bool E) → q ≡ names_query left right → IsIndexed rows v
     → IfOk r (λ found. (ns : List ℕ) × IsLeastClosed rows left ns × (found ≡ is_among right ns)) → IfOk r (Decides v q)
 walk_decides_ok rows v q left right (Ok found) asks index h = walk_decides rows v q left right found asks index h
 walk_decides_ok rows v q left right (Err e) asks index h = tt
-
--- each question between names has an answer
-pub answerable : (pairs : List (ℕ × ℕ)) (left right : ℕ) → (a : Answer) × Answers (pairs_job pairs left right) a
-answerable pairs left right = let l = least_of pairs left in (verdict_of (is_among right l.0), answers_reached pairs left right l.0 l.1)

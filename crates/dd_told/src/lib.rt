@@ -1,8 +1,7 @@
 //! Questions between names at versions whose axioms are between names: told subsumptions, and what they lead to.
 //!
 //! `version` keeps a version with the index that `rows` makes of its axioms, `walk` follows the index, and `question`
-//! answers. What an answer means is `specs/Answers.antt`, and what it is to decide a question between names
-//! `specs/Verdict.antt`.
+//! answers. What it is to decide a question between names is `specs/Verdict.antt`.
 #![tactic(auto)]
 
 mod question;

@@ -44,6 +44,19 @@ const LIMITS: &str = r#"
 > {"op":"check","peer":"a","left":"(not A","right":"~64*(not ~A~64*)~","pin":[1],"cert":{"format":1,"kind":"no","links":[],"locals":[{"names":[["A",0]],"roles":[],"size":1}]}}
 < {"code":3,"error":"bad_concept","id":6,"n":0}
 ---
+# A role leads from each of two elements to both: no part of a concept is judged anew for each way that leads to it.
+> {"op":"peers","names":["a"]}
+< {"id":1,"peers":1}
+> {"op":"check","peer":"a","left":"top","right":"bottom","pin":[0],"cert":{"format":1,"kind":"no","links":[],"locals":[{"names":[],"roles":[["r",0,0],["r",0,1],["r",1,0],["r",1,1]],"size":2}]}}
+< {"check":"valid","id":2}
+> {"op":"check","peer":"a","left":"top","right":"~63*(all r ~top~63*)~","pin":[0],"cert":{"format":1,"kind":"no","links":[],"locals":[{"names":[],"roles":[["r",0,0],["r",0,1],["r",1,0],["r",1,1]],"size":2}]}}
+< {"check":"invalid","fault":"not_counter","id":3}
+# Nor is each element looked at that no list mentions.
+> {"op":"check","peer":"a","left":"top","right":"~63*(all r ~bottom~63*)~","pin":[0],"cert":{"format":1,"kind":"no","links":[],"locals":[{"names":[],"roles":[],"size":4294967295}]}}
+< {"check":"invalid","fault":"not_counter","id":4}
+> {"op":"check","peer":"a","left":"top","right":"~63*(some r ~top~63*)~","pin":[0],"cert":{"format":1,"kind":"no","links":[],"locals":[{"names":[],"roles":[],"size":4294967295}]}}
+< {"check":"valid","id":5}
+---
 # A text of any depth is read, and a later text outside the grammar comes before it.
 > {"op":"peers","names":["a"]}
 < {"id":1,"peers":1}

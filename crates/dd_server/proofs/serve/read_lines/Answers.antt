@@ -1,5 +1,5 @@
-use Rattle.dd_server.proofs.GoesOn.{nothing_yet}
+use Rattle.dd_server.proofs.Runs.{nothing_yet}
 use Rattle.dd_server.proofs.serve.read_lines.Goals as goal
 
 pub returns-in-Err-clause-output : goal.returns-in-Err-clause-output
-returns-in-Err-clause-output g c = nothing_yet (g.S.Source.left c.args.source.now) (g.K.Sink.given c.args.sink.now)
+returns-in-Err-clause-output g c = nothing_yet c.args.server.now.options (g.S.Source.left c.args.source.now) (g.K.Sink.given c.args.sink.now)

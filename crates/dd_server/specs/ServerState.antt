@@ -1,7 +1,7 @@
--- The state that a session in memory stands for.
+-- For private clauses: the state that a server in memory stands for.
 use Rattle.std.specs.Prelude.{List, [], ◌∷◌, Option, None, Some}
 use Rattle.dd_told.specs.declared.version.Version.{Version}
-use Rattle.dd_server.specs.declared.session.Session.{Session}
+use Rattle.dd_server.specs.declared.server.Server.{Server}
 use Rattle.dd_server.specs.History.{Accepted}
 use Rattle.dd_server.specs.Session.{State}
 
@@ -10,5 +10,5 @@ abbrev pub history_of : Option Version → List Accepted
 history_of None = []
 history_of (Some v) = record { peer = 0; version = v.version } ∷ []
 
-abbrev pub state_of : Session → State
+abbrev pub state_of : Server → State
 state_of s = record { peers = s.names; symbols = s.symbols; history = history_of s.put }

@@ -3,9 +3,9 @@ use Rattle.dd_wire.specs.Accepted.{is_accepted}
 use Rattle.dd_wire.specs.Forms.{written_of}
 use Rattle.dd_wire.specs.declared.form.Form.{Form}
 use Rattle.dd_server.specs.Session.{is_open}
-use Rattle.dd_server.specs.SessionState.{state_of}
+use Rattle.dd_server.specs.ServerState.{state_of}
 use Rattle.dd_server.proofs.Sessions.{open_ask}
-use Rattle.dd_server.proofs.session.Session.is_open.Goals as goal
+use Rattle.dd_server.proofs.server.Server.is_open.Goals as goal
 
 pub returns-in-Ask : goal.returns-in-Ask
 returns-in-Ask c =

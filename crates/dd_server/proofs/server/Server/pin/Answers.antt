@@ -1,9 +1,9 @@
 use Rattle.std.proofs.Common.{◌≡◌, ◌∷◌, [], ◌∙◌, sym}
 use Rattle.dd_server.specs.History.{pin_of, last_version}
 use Rattle.dd_server.specs.Session.{names_of}
-use Rattle.dd_server.specs.SessionState.{state_of}
+use Rattle.dd_server.specs.ServerState.{state_of}
 use Rattle.dd_server.proofs.Only.{pin_only, single}
-use Rattle.dd_server.proofs.session.Session.pin.Goals as goal
+use Rattle.dd_server.proofs.server.Server.pin.Goals as goal
 
 pub returns : goal.returns
 returns c =

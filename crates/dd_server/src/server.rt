@@ -1,7 +1,7 @@
 ghost use Rattle.std.specs.Prelude.{◌≡◌, ◌<◌, ◌≤◌, ◌+◌, ◌^◌, ℕ, ◌∷◌, [], List, All, true, false, IfOk, IfSome, IsSome, IsTrue, length, Ok, slice_get, None, Some, cond};
 ghost use Rattle.std.specs.Option.{ForSome};
 ghost use Rattle.serde_json.specs.View.{view};
-ghost use Rattle.dd_told.specs.Verdict.{empty_version};
+ghost use Rattle.dd_peer.specs.Versions.{empty_version};
 ghost use Rattle.dd_text.specs.Names.{names_a_thing};
 ghost use Rattle.dd_text.specs.Symbols.{SymbolLists, Grows};
 ghost use Rattle.dd_wire.specs.Forms.{written_of};
@@ -10,6 +10,7 @@ ghost use Rattle.dd_wire.specs.Refusal.{Tested};
 ghost use Rattle.dd_server.specs.Does.{CutsTo};
 
 use crate::judge::judge;
+use crate::options::Options;
 use crate::refusal::{refused, refused_line, refused_version};
 use dd_concept::{Items, NoMemory};
 use dd_peer::{PeerVersion, Pinned, Query, Shared};
@@ -21,33 +22,36 @@ use dd_wire::{
 use serde_json::Value;
 use std::alloc::Global;
 
-/// What a session knows between requests: the texts that stand for numbers, the declared peers, and the version of the
-/// only one.
+/// What a session knows between requests: its options, the texts that stand for numbers, the declared peers, and the
+/// version of the only one.
 #[derive(Drop)]
-pub struct Session {
+pub struct Server {
+    pub options: Options,
     pub symbols: Symbols,
     pub names: Option<Names>,
     pub put: Option<Version>,
     ghost only: { ForSome names (λ ns. length ns ≡ 1) },
 }
 
-impl Session {
+impl Server {
     ghost use Rattle.dd_told.specs.Plain.{is_plain};
     ghost use Rattle.dd_told.specs.Verdict.{AsksNames, Decides};
     ghost use Rattle.dd_wire.specs.Replies.{IsPrintable};
-    ghost use Rattle.dd_wire.specs.Requests.{IsNumbered};
+    ghost use Rattle.dd_wire.specs.Requests.{IsNumberedRequest};
     ghost use Rattle.dd_wire.specs.declared.request.Request.TheVariants as request;
-    ghost use Rattle.dd_server.specs.Session.{start, is_open, is_built, names_of, job_at};
+    ghost use Rattle.dd_server.specs.Session.{start, is_open, is_built, names_of, question_at, ask_at, FinishesAsk};
     ghost use Rattle.dd_wire.specs.Accepted.{is_accepted};
-    ghost use Rattle.dd_server.specs.SessionState.{state_of};
+    ghost use Rattle.dd_server.specs.ServerState.{state_of};
     ghost use Rattle.dd_server.specs.History.{pin_of, is_pin, pinned_by, version_at, present_version, last_version};
-    ghost use Rattle.dd_server.specs.Does.{Does, Fits, AnsweredForm, PutBy, CheckBy};
+    ghost use Rattle.dd_server.specs.Does.{DoesAlone, Fits, AnsweredForm, PutBy, CheckBy};
 
     /// The session before its first request.
-    pub fn new(alloc: Global) -> Result<Session, NoMemory>
-        ensures { IfOk result (λ s. state_of s ≡ start) }
+    pub fn new(alloc: Global, options: Options) -> Result<Server, NoMemory>
+        ensures start { IfOk result (λ s. state_of s ≡ start) }
+        ensures options { IfOk result (λ s. s.options ≡ options) }
     {
-        Ok(Session {
+        Ok(Server {
+            options,
             symbols: Symbols::new(alloc)?,
             names: None,
             put: None,
@@ -77,8 +81,9 @@ impl Session {
     /// Answers a form that is accepted, as the request whose number is `id`. A refused one changes nothing.
     pub fn accept(&mut self, alloc: Global, id: u64, form: Form) -> Result<Reply, NoMemory>
         requires { is_built (state_of self.old) (written_of form) ≡ true }
-        ensures answered { IfOk result (AnsweredForm (state_of self.old) id (written_of form) (state_of self.new)) }
+        ensures answered { IfOk result (AnsweredForm self.old.options (state_of self.old) id (written_of form) (state_of self.new)) }
         ensures printable { IfOk result IsPrintable }
+        ensures options { self.new.options ≡ self.old.options }
     {
         let mark = self.symbols.mark();
         match resolve(alloc, &mut self.symbols, self.names.as_ref(), form) {
@@ -96,12 +101,13 @@ impl Session {
         request: Request,
     ) -> Result<Reply, NoMemory>
         requires fits { Fits (state_of self.old) request }
-        requires numbered { IsNumbered request }
+        requires numbered { IsNumberedRequest request }
         requires names { mark.names ≤ length self.old.symbols.names }
         requires roles { mark.roles ≤ length self.old.symbols.roles }
         ensures does { IfOk result (λ reply. (before : SymbolLists) → CutsTo mark self.old.symbols before
-            → Does (record (state_of self.old) { symbols = before }) id self.old.symbols request (state_of self.new) reply) }
+            → DoesAlone self.old.options (record (state_of self.old) { symbols = before }) id self.old.symbols request (state_of self.new) reply) }
         ensures printable { IfOk result IsPrintable }
+        ensures options { self.new.options ≡ self.old.options }
     {
         match request {
             Request::Peers(names) => self.declare(alloc, id, names),
@@ -119,8 +125,9 @@ impl Session {
     fn declare(&mut self, alloc: Global, id: u64, names: Items<Text>) -> Result<Reply, NoMemory>
         requires peers { are_peers names ≡ true }
         requires one { length names ≡ 1 }
-        ensures does { IfOk result (Does (state_of self.old) id self.old.symbols (request.Peers names) (state_of self.new)) }
+        ensures does { IfOk result (DoesAlone self.old.options (state_of self.old) id self.old.symbols (request.Peers names) (state_of self.new)) }
         ensures printable { IfOk result IsPrintable }
+        ensures options { self.new.options ≡ self.old.options }
     {
         self.names = Some(Names::new(alloc, &names)?);
         Ok(Reply::Peers { id, count: 1 })
@@ -135,12 +142,13 @@ impl Session {
         version: PeerVersion,
     ) -> Result<Reply, NoMemory>
         requires fits { Fits (state_of self.old) (request.Put peer version) }
-        requires numbered { IsNumbered (request.Put peer version) }
+        requires numbered { IsNumberedRequest (request.Put peer version) }
         requires names { mark.names ≤ length self.old.symbols.names }
         requires roles { mark.roles ≤ length self.old.symbols.roles }
         ensures does { IfOk result (λ reply. (before : SymbolLists) → CutsTo mark self.old.symbols before
-            → Does (record (state_of self.old) { symbols = before }) id self.old.symbols (request.Put peer version) (state_of self.new) reply) }
+            → DoesAlone self.old.options (record (state_of self.old) { symbols = before }) id self.old.symbols (request.Put peer version) (state_of self.new) reply) }
         ensures printable { IfOk result IsPrintable }
+        ensures options { self.new.options ≡ self.old.options }
     {
         match version.check(self.peer_count(), peer) {
             Ok(()) => self.store(alloc, id, peer, version),
@@ -171,9 +179,10 @@ impl Session {
     ) -> Result<Reply, NoMemory>
         requires first { (state_of self.old).history ≡ [] }
         requires declared { peer < length (names_of (state_of self.old)) }
-        requires numbered { IsNumbered (request.Put peer version) }
+        requires numbered { IsNumberedRequest (request.Put peer version) }
         ensures stores { IfOk result (PutBy None (state_of self.old) id self.old.symbols peer version (state_of self.new)) }
         ensures printable { IfOk result IsPrintable }
+        ensures options { self.new.options ≡ self.old.options }
     {
         let put = self.peer_name(alloc, peer)?;
         self.put = Some(Version::new(alloc, version)?);
@@ -200,13 +209,15 @@ impl Session {
         requires names { AsksNames query.now }
         requires plain { is_plain (present_version 0 (state_of self.old).history) ≡ true }
         requires declared { IsSome self.old.names }
-        ensures does { IfOk result (λ reply. (before : SymbolLists)
-            → Does (record (state_of self.old) { symbols = before }) id self.old.symbols (request.Ask query.now None None) (state_of self.new) reply) }
+        ensures finishes { IfOk result (λ reply. FinishesAsk (state_of self.old) (ask_at self.old.options (state_of self.old) id query.now None None) (state_of self.new) reply) }
         ensures printable { IfOk result IsPrintable }
+        ensures options { self.new.options ≡ self.old.options }
     {
-        let yes = self.decide(alloc, query)?;
         let pin = self.pin(alloc)?;
-        Ok(Reply::Decided { id, yes, pin })
+        match self.decide(alloc, query) {
+            Ok(yes) => return Ok(Reply::Decided { id, yes, pin }),
+            Err(_) => return Ok(Reply::Memory { id, pin }),
+        }
     }
 
     /// Whether the right name is above the left one, at the present version.
@@ -248,8 +259,9 @@ impl Session {
         requires names { mark.names ≤ length self.old.symbols.names }
         requires roles { mark.roles ≤ length self.old.symbols.roles }
         ensures does { IfOk result (λ reply. (before : SymbolLists) → CutsTo mark self.old.symbols before
-            → Does (record (state_of self.old) { symbols = before }) id self.old.symbols (request.Check query pin cert) (state_of self.new) reply) }
+            → DoesAlone self.old.options (record (state_of self.old) { symbols = before }) id self.old.symbols (request.Check query pin cert) (state_of self.new) reply) }
         ensures printable { IfOk result IsPrintable }
+        ensures options { self.new.options ≡ self.old.options }
     {
         let reply = self.reply_to_check(alloc, id, &query, &pin, &cert);
         drop(query);
@@ -269,8 +281,9 @@ impl Session {
     ) -> Result<Reply, NoMemory>
         requires declared { IsSome self.old.names }
         ensures checks { IfOk result (CheckBy (is_pin (names_of (state_of self.old)) pin.now.versions (state_of self.old).history) id
-            (job_at (state_of self.old) pin.now.versions query.now) self.old.symbols (view cert.now)) }
+            (question_at (state_of self.old) pin.now.versions query.now) self.old.symbols (view cert.now)) }
         ensures printable { IfOk result IsPrintable }
+        ensures options { self.new.options ≡ self.old.options }
         ensures grows { Grows self.old.symbols self.new.symbols }
         ensures same { state_of self.new ≡ record (state_of self.old) { symbols = self.new.symbols } }
     {
