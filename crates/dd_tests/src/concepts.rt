@@ -1,7 +1,9 @@
 ghost use Rattle.std.specs.Prelude.{⊤};
 
 use crate::rows::{Failure, Row, check, check_one};
-use dd_concept::{Axiom, Items, NoMemory, copy, copy_axiom, nnf, nnf_not, same};
+use dd_concept::{
+    Axiom, Items, NoMemory, copy, copy_axiom, names_in, nnf, nnf_not, roles_in, same, same_axiom,
+};
 use dd_text::{REQUEST, Symbols, read_axiom};
 use std::alloc::Global;
 
@@ -17,6 +19,10 @@ enum Asked {
     LeftCopied,
     /// Whether a copy of the axiom is the same as that.
     Copied,
+    /// Whether the names of the left one are those with the numbers 0, 1 and 0.
+    Names,
+    /// Whether the roles of the left one are those with the numbers 0 and 1.
+    Roles,
 }
 
 /// An axiom, and the answer to what is asked of its sides.
@@ -55,6 +61,8 @@ fn answer(alloc: Global, axiom: &Axiom, asked: &Asked) -> Result<bool, NoMemory>
         Asked::NnfNot => has_nnf_not(alloc, axiom),
         Asked::LeftCopied => is_left_copied(alloc, axiom),
         Asked::Copied => is_copied(alloc, axiom),
+        Asked::Names => has_three_names(alloc, axiom),
+        Asked::Roles => has_two_roles(alloc, axiom),
     }
 }
 
@@ -81,14 +89,31 @@ fn is_left_copied(alloc: Global, axiom: &Axiom) -> Result<bool, NoMemory> {
 
 fn is_copied(alloc: Global, axiom: &Axiom) -> Result<bool, NoMemory> {
     let again = copy_axiom(alloc, axiom)?;
-    let is_same = same(&again.left, &axiom.left) && same(&again.right, &axiom.right);
+    let is_same = same_axiom(&again, axiom);
     drop(again);
     Ok(is_same)
+}
+
+fn has_three_names(alloc: Global, axiom: &Axiom) -> Result<bool, NoMemory> {
+    let names = names_in(alloc, &axiom.left)?;
+    let are_three = names.as_slice() == [0, 1, 0].as_slice();
+    drop(names);
+    Ok(are_three)
+}
+
+fn has_two_roles(alloc: Global, axiom: &Axiom) -> Result<bool, NoMemory> {
+    let roles = roles_in(alloc, &axiom.left)?;
+    let are_two = roles.as_slice() == [0, 1].as_slice();
+    drop(roles);
+    Ok(are_two)
 }
 
 /// Sides that differ in a role alone.
 const TWO_ROLES: &[u8] =
     b"(implies (and A (some s (not (or B top)))) (and A (some r (not (or B top)))))";
+
+/// A name that stands twice on the left side, and two roles.
+const NAME_TWICE: &[u8] = b"(implies (and B (some s (or (not A) (all r B)))) (some r C))";
 
 const SIDES: &[Sides] = &[
     Sides {
@@ -116,10 +141,25 @@ const SIDES: &[Sides] = &[
         asked: Asked::Copied,
         answer: true,
     },
+    Sides {
+        text: NAME_TWICE,
+        asked: Asked::Names,
+        answer: true,
+    },
+    Sides {
+        text: NAME_TWICE,
+        asked: Asked::Roles,
+        answer: true,
+    },
+    Sides {
+        text: TWO_ROLES,
+        asked: Asked::Names,
+        answer: false,
+    },
 ];
 
 #[test]
-fn normal_forms_and_copies_are_trees_of_their_own(rt: HostRuntime) -> Result<(), Failure> {
+fn normal_forms_copies_names_and_roles_are_as_told(rt: HostRuntime) -> Result<(), Failure> {
     check(rt.alloc(), SIDES)
 }
 
@@ -131,9 +171,17 @@ fn four(alloc: Global) -> Result<Items<u32>, NoMemory> {
     Ok(items)
 }
 
+fn reads_as_four(items: &Items<u32>) -> bool {
+    items.len() == 4
+        && !items.is_empty()
+        && items.get(2).copied() == Some(7)
+        && items.get(4).is_none()
+        && items.iter().copied().max() == Some(9)
+}
+
 fn keep_their_order(alloc: Global) -> Result<bool, NoMemory> {
     let mut items = four(alloc)?;
-    let are_four = items.as_slice() == [4, 2, 7, 9].as_slice();
+    let are_four = items.as_slice() == [4, 2, 7, 9].as_slice() && reads_as_four(&items);
     items.truncate(2);
     let moved = Items::from_vec(items.into_vec());
     let are_two = moved.as_slice() == [4, 2].as_slice();

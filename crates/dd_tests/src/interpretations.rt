@@ -1,6 +1,6 @@
 use crate::rows::{Failure, check_one};
-use dd_concept::{Items, NoMemory};
-use dd_interp::{Interp, append, is_shaped};
+use dd_concept::{Concept, Items, NoMemory, existential};
+use dd_interp::{Interp, append, extension, is_shaped};
 use std::alloc::Global;
 
 /// Two elements, the first of them in name 5 and with the second in role 7.
@@ -45,4 +45,29 @@ fn sample_doubles(alloc: Global) -> Result<bool, NoMemory> {
 #[test]
 fn append_moves_elements_up(rt: HostRuntime) -> Result<(), Failure> {
     check_one(sample_doubles(rt.alloc()))
+}
+
+/// Whether the first element of the sample alone has a successor along role 7, where it is asked between two others.
+fn first_alone_leads(alloc: Global) -> Result<bool, NoMemory> {
+    let concept = existential(alloc, 7, Concept::Top)?;
+    let is_right = is_the_first(alloc, &concept);
+    drop(concept);
+    is_right
+}
+
+fn is_the_first(alloc: Global, concept: &Concept) -> Result<bool, NoMemory> {
+    let roles = Items::from_slice(alloc, &[(7, 0, 1)])?;
+    let i = Interp {
+        size: 2,
+        names: Items::new(alloc),
+        roles,
+    };
+    let row = extension(alloc, &i, &[1, 0, 9], concept);
+    drop(i);
+    Ok(row?.as_slice() == [false, true, false].as_slice())
+}
+
+#[test]
+fn an_extension_is_told_in_the_order_of_the_list(rt: HostRuntime) -> Result<(), Failure> {
+    check_one(first_alone_leads(rt.alloc()))
 }

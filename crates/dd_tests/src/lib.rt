@@ -1,17 +1,26 @@
 //! Tests of the libraries, by their public calls. They stand in a crate of their own, since a crate with tests is proved twice.
 //!
 //! They show what no session of the program's own tests shows: `concepts`, `interpretations`, `peers` and `worlds` of several
-//! peers; `lines` however they are read; `members` of JSON objects; `symbols` and `texts` both ways; `lookups` and `replies`
-//! of the protocol, with the codes that the program does not answer yet. `rows` says what a table is, and `versions` makes
-//! what `peers` and `worlds` are about.
+//! peers; `tasks` with their goals, and `derivations`; `labels` as sets and in a table, `labels_of_rules` under the rules of a
+//! peer, and `closures` the concepts of one by their numbers; `lines` however they are read; `members` of JSON objects; `symbols`
+//! and `texts` both ways; `lookups` and `replies` of the protocol, with the codes that the program does not answer yet. `rows` says what a table
+//! is, and `versions` makes what `peers` and `worlds` are about.
 //!
 //! A value that owns memory is dropped by a call of `drop`, which takes far less to prove than a drop at the end of its block.
 #![tactic(auto)]
 
 #[cfg(test)]
+mod closures;
+#[cfg(test)]
 mod concepts;
 #[cfg(test)]
+mod derivations;
+#[cfg(test)]
 mod interpretations;
+#[cfg(test)]
+mod labels;
+#[cfg(test)]
+mod labels_of_rules;
 #[cfg(test)]
 mod lines;
 #[cfg(test)]
@@ -25,6 +34,8 @@ mod replies;
 pub mod rows;
 #[cfg(test)]
 mod symbols;
+#[cfg(test)]
+mod tasks;
 #[cfg(test)]
 mod texts;
 pub mod versions;
