@@ -13,11 +13,11 @@ use Rattle.dd_peer.specs.Rules.{rules_of, rules_from}
 use Rattle.dd_peer.specs.Refusals.{most_axioms, most_rules, crowd_of, first_crowd, refusal_of, refused_by, IsAccepted}
 
 module _ {A : Type 0} (P : A → Type 0) where
-  All-left : (xs ys : List A) → All P (xs ++ ys) → All P xs
+  pub All-left : (xs ys : List A) → All P (xs ++ ys) → All P xs
   All-left [] ys h = All-nil P
   All-left (x ∷ xs) ys h = All-cons P x xs (All-head P x (xs ++ ys) h) (All-left xs ys (All-tail P x (xs ++ ys) h))
 
-  All-right : (xs ys : List A) → All P (xs ++ ys) → All P ys
+  pub All-right : (xs ys : List A) → All P (xs ++ ys) → All P ys
   All-right [] ys h = h
   All-right (x ∷ xs) ys h = All-right xs ys (All-tail P x (xs ++ ys) h)
 

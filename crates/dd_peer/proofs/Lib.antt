@@ -1,2 +1,4 @@
 pub mod Crowds
 pub mod Accepted
+pub mod Marking
+pub mod Listed
