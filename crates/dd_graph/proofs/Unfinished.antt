@@ -83,3 +83,12 @@ unfinished-done k id upto h to shut is from within = record {
 -- the flag tells that the label is clear
 pub flagged-clear : (k : Kernel) (id : ℕ) (l : List ℕ) (h : Unfinished k id) → h.entry.clear ≡ true → slice_get k.table.list id ≡ Some l → IsClear (rules_at (kernel_view k)) (has l)
 flagged-clear k id l h flag at = (k.right.each id l h.entry at h.here).clear flag
+
+-- a reached label that is neither closed nor open, and at which nothing was done, is unfinished
+pub fresh-unfinished : (k : Kernel) (id : ℕ) (e : Entry) → slice_get k.reached.items id ≡ Some true → slice_get k.entries.items id ≡ Some e
+    → is_settled e ≡ false → e.node ≡ node.Fresh → unfinished_at k id ≡ true
+fresh-unfinished k id e marked here unsettled fresh =
+    ap (λ o. option_map_or (λ b. b) o false && option_map_or (is_unfinished (width_in k) k.entries.items k.closed) (slice_get k.entries.items id) false) marked
+    ∙ ap (λ o. option_map_or (is_unfinished (width_in k) k.entries.items k.closed) o false) here
+    ∙ ap (λ b. not b && (is_begun (width_in k) e.upto e.node || closes k.entries.items k.closed e.node)) unsettled
+    ∙ ap (λ n. is_begun (width_in k) e.upto n || closes k.entries.items k.closed n) fresh

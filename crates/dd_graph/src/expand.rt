@@ -231,7 +231,7 @@ fn done_upto(entries: &[Entry], id: u32) -> Option<u32>
     }
 }
 
-fn is_clear(entries: &[Entry], id: u32) -> bool
+pub(crate) fn is_clear(entries: &[Entry], id: u32) -> bool
     requires { id < length entries.now }
     ensures { (e : Entry) → slice_get entries.now id ≡ Some e → result ≡ e.clear }
 {

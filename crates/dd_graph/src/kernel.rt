@@ -48,6 +48,6 @@ pub enum Advice {
     /// The first step that the label calls for.
     First,
     Take(Step),
-    /// The label that the existential restriction with this number asks for is closed.
+    /// The label that the existential restriction with this number asks for is closed, or will be at its next step.
     Refute(u32),
 }

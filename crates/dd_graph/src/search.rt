@@ -114,8 +114,9 @@ impl<'b> Kernel<'b> {
                 let Ok(advice) = walk.advice(alloc, self, id) else {
                     return Err(Stop::NoMemory);
                 };
-                self.expand(alloc, id, advice)?;
-                match walk.settled(self, id) {
+                let at = self.place(alloc, id, advice)?;
+                self.expand(alloc, at, advice)?;
+                match walk.settled(self, at) {
                     Ok(()) => Ok(true),
                     Err(_) => Err(Stop::NoMemory),
                 }

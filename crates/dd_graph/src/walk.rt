@@ -108,6 +108,9 @@ impl Walk {
         let Some(label) = kernel.saturated_at(alloc, id)? else {
             return Ok(Advice::First);
         };
+        if let Some(n) = kernel.dead_end(alloc, &label)? {
+            return Ok(Advice::Refute(n));
+        }
         match self.order.choose(alloc, kernel, &label)? {
             Some(choice) => {
                 let mut note = self.note(id);
