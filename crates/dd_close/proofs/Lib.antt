@@ -1,0 +1,13 @@
+pub mod Books
+pub mod Within
+pub mod Choices
+pub mod Lefts
+pub mod Climbing
+pub mod Rights
+pub mod Nodes
+pub mod Ordering
+pub mod Writing
+pub mod Bridging
+pub mod Finishing
+pub mod Reasons
+pub mod Sounds
