@@ -1,0 +1,10 @@
+pub mod Targets
+pub mod Propagations
+pub mod Numbering
+pub mod Goals
+pub mod Opened
+pub mod Closed
+pub mod SpentRuns
+pub mod Lonely
+pub mod Taking
+pub mod Runs

@@ -1,0 +1,5 @@
+pub mod Fit
+pub mod Closures
+pub mod Found
+pub mod Answered
+pub mod Numbers
