@@ -1,0 +1,2 @@
+mod EqualKeys
+mod Seeing

@@ -1,0 +1,4 @@
+mod Commas
+mod Pieces
+mod Rest
+mod Rows
