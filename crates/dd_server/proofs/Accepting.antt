@@ -1,7 +1,7 @@
 -- What the tests of a form have made sure of, and how what a request does is an answer to its form.
 use Rattle.std.proofs.Common.{◌≡◌, ℕ, ◌≤◌, List, [], ◌∷◌, ◌&&◌, length, take, Bool, true, false, not, nat_eq, refl, ap, sym, ◌∙◌, subst, Option, None, Some, Result, Ok, Err, IfOk}
 use Rattle.std.proofs.lemmas.Bool.{and_parts, eqb-true}
-use Rattle.std.specs.Prelude.{is_some}
+use Rattle.std.specs.Prelude.{is_some, map}
 use Rattle.std.specs.List.{list_all}
 use Rattle.dd_text.specs.Grammar.{Term}
 use Rattle.dd_text.specs.Names.{names_a_thing}
@@ -13,11 +13,12 @@ use Rattle.dd_text.proofs.Numbering.{Appends-refl, Appends-trans, take-Appends, 
 use Rattle.dd_wire.specs.Accepted.{is_declared, is_one_name, is_empty}
 use Rattle.dd_wire.specs.Forms.{Written}
 use Rattle.dd_wire.specs.Forms as form
+use Rattle.dd_wire.specs.declared.form.RuleForm.{RuleForm}
 use Rattle.dd_wire.specs.Lines.{form_in, IsRefused}
 use Rattle.dd_wire.specs.Placed.{placed, are_peers}
 use Rattle.dd_wire.specs.Refusal.{Refusal, Tested, ◌>>=◌, demand, demand_none, refused, concept_limit, symbols_full, bad_peers, peers_twice}
-use Rattle.dd_wire.specs.Requests.{AfterPlace, Tests, ReadsRequest, IsRequest, declared_names}
-use Rattle.dd_wire.specs.Texts.{Parsed, Parse, parsed, outside, IsParse, Parses, Resolved, RuleTree, sized_texts, first_large, trees_of, with_terms, with_texts, has_room}
+use Rattle.dd_wire.specs.Requests.{AfterPlace, Tests, ReadsRequest, IsRequest, declared_names, rule_of_trees}
+use Rattle.dd_wire.specs.Texts.{Parsed, Parse, parsed, outside, IsParse, Parses, Each, SpellsRule, Resolved, RuleTree, sized_texts, first_large, trees_of, with_terms, with_texts, has_room}
 use Rattle.dd_wire.specs.Texts as text
 use Rattle.dd_wire.specs.declared.reply.Reply.{Reply}
 use Rattle.dd_wire.specs.declared.reply.Reply.TheVariants as reply
@@ -26,10 +27,9 @@ use Rattle.dd_wire.specs.declared.request.WireErr.{WireErr}
 use Rattle.dd_wire.specs.declared.request.WireErr.TheVariants as wire
 use Rattle.dd_server.specs.Does.{CutsTo, Fits, DoesAlone, AnsweredForm, AnsweredLine}
 use Rattle.dd_server.specs.declared.options.Options.{Options}
-use Rattle.dd_server.specs.History.{Accepted}
 use Rattle.dd_server.specs.Session.{State, finished, longest_line, names_of, is_built}
 use Rattle.dd_server.specs.Turns.{RefusesLine}
-use Rattle.dd_server.proofs.Only.{IsOne, IsAsk, ask_parts, asks_names, asks_plain, declared_in, declared_some}
+use Rattle.dd_server.proofs.Only.{IsOne, single, only_number, declared_in, declared_some}
 use Rattle.dd_server.proofs.Requests.{IsReady, does_answered}
 use Rattle.dd_server.proofs.Turning.{refused-form, not_built-form, built-form, answered-refused, answered-form}
 
@@ -109,25 +109,37 @@ resolved_grows s w p y r = subst (Grows s.symbols) (sym r.symbols) (grows_texts 
 -- ---- what they have made sure of
 
 -- a put that is built
-record IsPut (s : State) (peer : List ℕ) : Type 0 where
+record IsPut (s : State) (peer : List ℕ) (onto : List RuleForm) : Type 0 where
   pub first : s.history ≡ []
   pub declared : has_text (names_of s) peer ≡ true
+  pub no_onto : onto ≡ []
 
-put_parts : (s : State) (peer : List ℕ) (a b : Bool) → ((is_declared s.peers peer && a && b) && is_empty s.history) ≡ true → IsPut s peer
-put_parts s peer a b built =
-    let outer = and_parts (is_declared s.peers peer && a && b) (is_empty s.history) built in
+nothing_in : {A : Type 0} (xs : List A) → is_empty xs ≡ true → xs ≡ []
+nothing_in [] e = refl
+nothing_in (x ∷ xs) e = absurd (off e)
+
+put_parts : (s : State) (peer : List ℕ) (a : Bool) (onto : List RuleForm) → ((is_declared s.peers peer && a && is_empty onto) && is_empty s.history) ≡ true → IsPut s peer onto
+put_parts s peer a onto built =
+    let outer = and_parts (is_declared s.peers peer && a && is_empty onto) (is_empty s.history) built in
+    let inner = and_parts (is_declared s.peers peer && a) (is_empty onto) outer.0 in
     record {
       first = nothing_in s.history outer.1;
-      declared = declared_in s.peers peer (and_parts (is_declared s.peers peer) a (and_parts (is_declared s.peers peer && a) b outer.0).0).0;
+      declared = declared_in s.peers peer (and_parts (is_declared s.peers peer) a inner.0).0;
+      no_onto = nothing_in onto inner.1;
     }
+
+-- no rules have no trees
+no_trees : (rules : List RuleForm) (trees : List RuleTree) (names : List (List ℕ)) (y : SymbolLists) → rules ≡ [] → Each SpellsRule rules trees → map (rule_of_trees names y) trees ≡ []
+no_trees [] [] names y e h = refl
+no_trees [] (t ∷ ts) names y e h = absurd h
+no_trees (r ∷ rs) trees names y e h = absurd (some e)
   where
-    nothing_in : (h : List Accepted) → is_empty h ≡ true → h ≡ []
-    nothing_in [] e = refl
-    nothing_in (x ∷ h) e = absurd (off e)
+    some : r ∷ rs ≡ [] → ⊥
+    some e = cc e
 
 pub ready : (s : State) (w : Written) (p : Parsed) (y : SymbolLists) → is_built s w ≡ true → Resolves s w p y → IsReady s y p
 ready s (form.peers ns) p y built r = subst (IsReady s y) (sym r.parses) (r.symbols ∙ ap (λ (q : Parsed). with_texts s.symbols (trees_of q)) r.parses)
-ready s (form.put peer axioms into onto) p y built r = let aput = put_parts s peer _ _ built in subst (IsReady s y) (sym r.parses.6) (aput.first, aput.declared)
+ready s (form.put peer axioms into onto) p y built r = let aput = put_parts s peer _ onto built in subst (IsReady s y) (sym r.parses.6) (aput.first, aput.declared)
 ready s (form.ask peer left right e v) p y built r = subst (IsReady s y) (sym r.parses.4) tt
 ready s (form.check peer left right pin cert) p y built r = subst (IsReady s y) (sym r.parses.4) tt
 ready s form.versions p y built r = absurd (off built)
@@ -158,16 +170,13 @@ fits s (form.peers ns) p y r one built found is =
     subst (Fits (with_symbols s y)) (sym q) (declares s ns found.place built found.placed_is)
 fits s (form.put peer axioms into onto) p y r one built found is =
     let q : IsRequest (names_of s) y (text.put peer found.parses.0 found.parses.1 found.parses.2) r = subst (λ (q : Parsed). IsRequest (names_of s) y q r) found.parses.6 is in
-    let aput = put_parts s peer _ _ built in
-    subst (Fits (with_symbols s y)) (sym q) (aput.first, number_of-within (names_of s) peer aput.declared)
+    let aput = put_parts s peer _ onto built in
+    subst (Fits (with_symbols s y)) (sym q) (aput.first, number_of-within (names_of s) peer aput.declared, no_trees onto found.parses.2 (names_of s) y aput.no_onto found.parses.5)
 fits s (form.ask peer left right e v) p y r one built found is =
     let q : IsRequest (names_of s) y (text.ask peer found.parses.0 found.parses.1 e v) r = subst (λ (q : Parsed). IsRequest (names_of s) y q r) found.parses.4 is in
-    let anask : IsAsk s.peers peer left right s.history = ask_parts s.peers peer left right (not (is_some e)) (not (is_some v)) _ s.history refl built in
-    subst (Fits (with_symbols s y)) (sym q) (
-      asks_names s.peers y peer left right s.history found.parses.0 found.parses.1 one anask found.parses.2 found.parses.3,
-      asks_plain s.peers peer left right s.history one anask,
-      declared_some s.peers peer anask.declared,
-    )
+    let declared = (and_parts (is_declared s.peers peer) _ (and_parts (is_declared s.peers peer && _) true built).0).0 in
+    let some = declared_some s.peers peer declared in
+    subst (Fits (with_symbols s y)) (sym q) (only_number (names_of s) peer (single s.peers some one) (declared_in s.peers peer declared), some)
 fits s (form.check peer left right pin cert) p y r one built found is =
     let q : IsRequest (names_of s) y (text.check peer found.parses.0 found.parses.1 pin cert) r = subst (λ (q : Parsed). IsRequest (names_of s) y q r) found.parses.4 is in
     let declared = (and_parts (is_declared s.peers peer) _ (and_parts (is_declared s.peers peer && _) true built).0).0 in

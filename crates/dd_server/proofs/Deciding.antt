@@ -1,5 +1,5 @@
 -- The tests of a line find one thing: a text is that of one tree, and one text is the first outside its grammar.
-use Rattle.std.proofs.Common.{◌≡◌, ℕ, zero, suc, ◌<◌, ◌≤◌, List, [], ◌∷◌, ◌++◌, Bool, refl, ap, sym, ◌∙◌, subst, inl, inr, arith, Ok, Err}
+use Rattle.std.proofs.Common.{◌≡◌, ℕ, zero, suc, List, [], ◌∷◌, ◌++◌, Bool, refl, ap, sym, ◌∙◌, subst, inl, inr, arith, Ok, Err}
 use Rattle.std.proofs.lemmas.Bool.{cases_lt}
 use Rattle.std.specs.Prelude.{map, slice_get, Some, ⊤}
 use Rattle.dd_text.specs.Grammar.{Term}
@@ -12,6 +12,7 @@ use Rattle.dd_wire.specs.Refusal.{Tested, ◌>>=◌}
 use Rattle.dd_wire.specs.Requests.{AfterPlace, AfterForm}
 use Rattle.dd_wire.specs.Texts.{Piece, concept, implication, rule_pieces, pieces_of, IsInGrammar, IsFirstOutside, RuleTree, Parsed, Each, SpellsSides, SpellsRule, Parses, Parse, parsed, outside, IsParse, Resolved, sized_texts}
 use Rattle.dd_wire.specs.Texts as text
+use Rattle.dd_server.specs.declared.options.Options.{Options}
 use Rattle.dd_server.specs.Session.{State, built_form, admitted, Passes}
 
 -- ---- a text is that of one tree
@@ -122,6 +123,6 @@ form_decides : (t : Tested Written) (s : State) (a b : Tested Resolved) → Afte
 form_decides (Err e) s a b h k = h ∙ sym k
 form_decides (Ok w) s a b h k = place_decides (placed s.peers w) s w a b h k
 
-pub passes_decide : (s : State) (line : List ℕ) (a b : Tested Resolved) → Passes s line a → Passes s line b → a ≡ b
-passes_decide s line a b h k =
-    h.2 ∙ ap (λ (t : Tested Resolved). t >>= admitted s) (form_decides (built_form s line) s h.0 k.0 h.1 k.1) ∙ sym k.2
+pub passes_decide : (o : Options) (s : State) (line : List ℕ) (a b : Tested Resolved) → Passes o s line a → Passes o s line b → a ≡ b
+passes_decide o s line a b h k =
+    h.2 ∙ ap (λ (t : Tested Resolved). t >>= admitted o s) (form_decides (built_form s line) s h.0 k.0 h.1 k.1) ∙ sym k.2

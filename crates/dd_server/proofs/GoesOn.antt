@@ -1,5 +1,5 @@
 -- From each state some replies may follow, whatever lines come.
-use Rattle.std.proofs.Common.{◌≡◌, ◌==◌, ℕ, ◌+◌, List, [], ◌∷◌, ◌++◌, length, Bool, true, false, refl, sym, ap, ◌∙◌, subst, Option, None, Some, Ok, Err, append_assoc}
+use Rattle.std.proofs.Common.{◌≡◌, ◌==◌, ℕ, ◌+◌, List, [], ◌∷◌, ◌++◌, length, Bool, true, false, refl, sym, ap, ◌∙◌, subst, None, Ok, Err, append_assoc}
 use Rattle.std.proofs.lemmas.List.{append-nil}
 use denote.Bor.{Bor}
 use Rattle.dd_lines.specs.Lines.{lines_of}
@@ -17,7 +17,7 @@ use Rattle.dd_wire.specs.declared.reply.Reply.TheVariants as reply
 use Rattle.dd_wire.specs.declared.reply.Unread.TheVariants as unread
 use Rattle.dd_server.specs.declared.options.Options.{Options}
 use Rattle.dd_server.specs.Answers.{memory}
-use Rattle.dd_server.specs.Session.{State, Kept, finished, asked, names_of, built_form, admitted, Passes, question_at, Judges, Does, Obeys, Read, Finishes, Finish, is_blank, Standing, Closes, Turns, Turn, Through, opening, Session}
+use Rattle.dd_server.specs.Session.{State, Kept, finished, asked, names_of, built_form, admitted, Passes, question_at, Judges, Obeys, Finishes, Finish, is_blank, Standing, Closes, Turns, Turn, Through, opening, Session}
 use Rattle.dd_server.proofs.Judging.{judges_some_cert}
 
 -- ---- a line is read
@@ -31,8 +31,8 @@ after_form (Err e) s = (Err e, refl)
 after_form (Ok w) s = after_place (placed s.peers w) s w
 
 -- the tests of a line find something
-passes_some : (s : State) (line : List ℕ) → (found : Tested Resolved) × Passes s line found
-passes_some s line = let texts = after_form (built_form s line) s in (texts.0 >>= admitted s, (texts.0, texts.1, refl))
+passes_some : (o : Options) (s : State) (line : List ℕ) → (found : Tested Resolved) × Passes o s line found
+passes_some o s line = let texts = after_form (built_form s line) s in (texts.0 >>= admitted o s, (texts.0, texts.1, refl))
 
 -- some reply tells of what was found of a certificate
 judges_some : (id : ℕ) (q : Question) (found : Tried Certified) → (given : Reply) × Judges id q found given
@@ -65,7 +65,7 @@ obeys_some o s id (Ok r) = does_some o s id r.symbols r.request
 
 finishes_some : (s : State) (k : Kept) → (given : Reply) × Finishes s k s given
 finishes_some s (finished done) = (done, (refl, refl))
-finishes_some s (asked a) = (reply.Memory a.id (record { versions = a.pin }), (refl, memory, tt, refl))
+finishes_some s (asked a) = (reply.Memory a.id (record { versions = a.pin }), (refl, (memory, tt, refl)))
 
 finish_some : (s : State) (ks : List Kept) → (replies : List Reply) × Finish s ks s replies
 finish_some s [] = ([], (refl, refl))
@@ -101,7 +101,7 @@ turn_some o at line = by_kind (is_blank line) refl
       turn = subst (λ (b : Bool). Turns b o at line (record { state = at.state; requests = at.requests; kept = c.rest }) c.replies) (sym is) (c.closes, refl);
     }
     by_kind false is =
-        let found = passes_some at.state line in
+        let found = passes_some o at.state line in
         let d = obeys_some o at.state (at.requests + 1) found.0 in
         let c = closes_some (length (at.kept ++ d.kept ∷ []) == o.window) d.next (at.kept ++ d.kept ∷ []) in record {
           next = record { state = d.next; requests = at.requests + 1; kept = c.rest };

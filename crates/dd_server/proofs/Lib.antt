@@ -5,6 +5,6 @@ pub mod Certs
 pub mod Deciding
 pub mod Judging
 pub mod Runs
-pub mod Sessions
+pub mod Asking
 pub mod Accepting
 pub mod GoesOn

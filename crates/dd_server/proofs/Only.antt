@@ -1,21 +1,21 @@
--- States with one peer, and what the tests of a form have made sure of there.
-use Rattle.std.proofs.Common.{inl, inr, ◌≡◌, ℕ, ◌&&◌, List, [], ◌∷◌, length, Bool, true, false, cond, not, refl, ap, ◌∙◌, subst, arith, Option, None, Some}
-use Rattle.std.proofs.lemmas.Bool.{and_parts, or_cases}
+-- States with one peer.
+use Rattle.std.proofs.Common.{inl, inr, ◌≡◌, ℕ, List, [], ◌∷◌, length, true, false, cond, not, refl, ap, sym, ◌∙◌, arith, Option, None, Some}
+use Rattle.std.proofs.lemmas.Bool.{or_cases}
 use Rattle.std.specs.Prelude.{IsSome}
 use Rattle.std.specs.Option.{ForSome}
 use Rattle.std.specs.Str.{bytes_eq}
-use Rattle.dd_concept.specs.declared.concept.Concept.TheVariants.{Name}
-use Rattle.dd_told.specs.Plain.{is_plain}
-use Rattle.dd_told.specs.Verdict.{AsksNames}
-use Rattle.dd_text.specs.Grammar.{Term, atomic, Spells}
-use Rattle.dd_text.specs.Names.{names_a_thing}
 use Rattle.dd_text.specs.Symbols.{SymbolLists, number_of, has_text}
-use Rattle.dd_text.specs.Text.{concept_of}
-use Rattle.dd_text.proofs.Unique.{Spells-unique}
+use Rattle.dd_peer.specs.declared.version.PeerVersion.{PeerVersion}
+use Rattle.dd_peer.specs.declared.version.Pinned.{Pinned}
 use Rattle.dd_peer.specs.declared.version.Query.{Query}
+use Rattle.dd_run.specs.Fit.{IsAlone}
+use Rattle.dd_task.specs.declared.job.Budget.{Budget}
+use Rattle.dd_task.specs.declared.job.Job.{Job}
 use Rattle.dd_wire.specs.Accepted.{is_declared}
-use Rattle.dd_wire.specs.Requests.{declared_names, query_of}
-use Rattle.dd_server.specs.History.{Accepted, last_version, present_version, pin_of, pinned_by}
+use Rattle.dd_wire.specs.Requests.{declared_names}
+use Rattle.dd_server.specs.History.{Accepted, last_version, version_at, pin_of, pinned_by}
+use Rattle.dd_server.specs.ServerState.{history_of}
+use Rattle.dd_server.specs.Session.{State, names_of, job_within}
 
 -- there is one peer, where any are declared
 abbrev pub IsOne : Option (List (List ℕ)) → Type 0
@@ -52,7 +52,11 @@ only_number (n ∷ []) peer one there = elim (or_cases (bytes_eq peer n) false t
 ]
 only_number (n ∷ m ∷ ns) peer one there = absurd (two_are_one n m ns one)
 
-pub pinned_only : (ns : List (List ℕ)) (h : List Accepted) → length ns ≡ 1 → pinned_by (pin_of ns h) h ≡ record { peers = present_version 0 h ∷ [] }
+-- the version of the only peer
+abbrev pub present : List Accepted → PeerVersion
+present h = version_at 0 h (last_version 0 h)
+
+pub pinned_only : (ns : List (List ℕ)) (h : List Accepted) → length ns ≡ 1 → pinned_by (pin_of ns h) h ≡ record { peers = present h ∷ [] }
 pinned_only [] h one = absurd (none_is_one one)
 pinned_only (n ∷ []) h one = refl
 pinned_only (n ∷ m ∷ ns) h one = absurd (two_are_one n m ns one)
@@ -62,46 +66,36 @@ pin_only [] h one = absurd (none_is_one one)
 pin_only (n ∷ []) h one = refl
 pin_only (n ∷ m ∷ ns) h one = absurd (two_are_one n m ns one)
 
--- ---- asks between names
+-- ---- the only version keeps no onto rules, so the only peer is alone
 
-pub atomic_spelt : (text : List ℕ) (t : Term) → names_a_thing text ≡ true → Spells text t → t ≡ atomic text
-atomic_spelt text t named spelt = Spells-unique text t (atomic text) spelt (record { written = named; text_is = refl })
-
--- what an ask that is accepted says
-pub record IsAsk (o : Option (List (List ℕ))) (peer left right : List ℕ) (h : List Accepted) : Type 0 where
-  pub declared : is_declared o peer ≡ true
-  pub left_named : names_a_thing left ≡ true
-  pub right_named : names_a_thing right ≡ true
-  pub plain : is_plain (present_version (number_of (declared_names o) peer) h) ≡ true
-
-pub ask_parts : (o : Option (List (List ℕ))) (peer left right : List ℕ) (a b p : Bool) (h : List Accepted)
-    → is_plain (present_version (number_of (declared_names o) peer) h) ≡ p
-    → ((is_declared o peer && names_a_thing left && names_a_thing right && a && b) && p) ≡ true → IsAsk o peer left right h
-ask_parts o peer left right a b p h plain built =
-    let outer = and_parts (is_declared o peer && names_a_thing left && names_a_thing right && a && b) p built in
-    let one = and_parts (is_declared o peer && names_a_thing left && names_a_thing right && a) b outer.0 in
-    let two = and_parts (is_declared o peer && names_a_thing left && names_a_thing right) a one.0 in
-    let three = and_parts (is_declared o peer && names_a_thing left) (names_a_thing right) two.0 in
-    let four = and_parts (is_declared o peer) (names_a_thing left) three.0 in
-    record { declared = four.0; left_named = four.1; right_named = three.1; plain = plain ∙ outer.1 }
-
--- it is asked at the only peer, between two names
-pub asks_names : (o : Option (List (List ℕ))) (y : SymbolLists) (peer left right : List ℕ) (h : List Accepted) (l r : Term) → IsOne o → IsAsk o peer left right h → Spells left l → Spells right r
-    → AsksNames (query_of (declared_names o) y peer l r)
-asks_names o y peer left right h l r one ask hl hr = (number_of y.names left, number_of y.names right, same)
+no_items : {A : Type 0} (xs : List A) → length xs ≡ 0 → xs ≡ []
+no_items [] e = refl
+no_items (x ∷ xs) e = absurd (some e)
   where
-    zero : number_of (declared_names o) peer ≡ 0
-    zero = only_number (declared_names o) peer (single o (declared_some o peer ask.declared) one) (declared_in o peer ask.declared)
+    some : length (x ∷ xs) ≡ 0 → ⊥
+    some e = omega (arith, e)
 
-    query : ℕ → Term → Term → Query
-    query n t u = record { peer = n; left = concept_of y t; right = concept_of y u }
+present_no_onto : (o : Option PeerVersion) → ForSome o (λ v. length v.onto ≡ 0) → (present (history_of o)).onto ≡ []
+present_no_onto None h = refl
+present_no_onto (Some v) h = no_items v.onto (h v refl)
 
-    same : query_of (declared_names o) y peer l r ≡ record { peer = 0; left = Name (number_of y.names left); right = Name (number_of y.names right) }
-    same = ap (λ (n : ℕ). query n l r) zero ∙ ap (λ (t : Term). query 0 t r) (atomic_spelt left l ask.left_named hl)
-        ∙ ap (λ (t : Term). query 0 (atomic left) t) (atomic_spelt right r ask.right_named hr)
+pub alone_job : (o : Option (List (List ℕ))) (v : Option PeerVersion) (y : SymbolLists) (q : Query) (b : Budget) → IsSome o → IsOne o → ForSome v (λ v. length v.onto ≡ 0) → q.peer ≡ 0
+    → IsAlone (job_within (record { peers = o; symbols = y; history = history_of v }) q b)
+alone_job o v y q b some one h zero = record {
+  version = present (history_of v);
+  only = ap (λ (p : Pinned). p.peers) (pinned_only (declared_names o) (history_of v) (single o some one));
+  asked = zero;
+  no_onto = present_no_onto v h;
+}
 
--- the version that is asked about is plain
-pub asks_plain : (o : Option (List (List ℕ))) (peer left right : List ℕ) (h : List Accepted) → IsOne o → IsAsk o peer left right h → is_plain (present_version 0 h) ≡ true
-asks_plain o peer left right h one ask =
-    subst (λ (n : ℕ). is_plain (present_version n h) ≡ true)
-    (only_number (declared_names o) peer (single o (declared_some o peer ask.declared) one) (declared_in o peer ask.declared)) ask.plain
+-- a job with these versions, at the only peer
+pub job_is : (s : State) (q : Query) (b : Budget) (p : Pinned) (number : ℕ) (relevant : List ℕ) → IsSome s.peers → IsOne s.peers → number ≡ last_version 0 s.history
+    → p ≡ pinned_by (number ∷ []) s.history → relevant ≡ q.peer ∷ []
+    → (let job : Job = record { pinned = p; query = q; relevant = relevant; budget = b } in job) ≡ job_within s q b
+job_is s q b p number relevant some one last pinned only =
+    let pin = pin_only (names_of s) s.history (single s.peers some one) in
+    ap (λ (v : Pinned). job v relevant) (pinned ∙ ap (λ (n : ℕ). pinned_by (n ∷ []) s.history) last ∙ ap (λ (ns : List ℕ). pinned_by ns s.history) (sym pin))
+    ∙ ap (λ (is : List ℕ). job (pinned_by (pin_of (names_of s) s.history) s.history) is) only
+  where
+    job : Pinned → List ℕ → Job
+    job v is = record { pinned = v; query = q; relevant = is; budget = b }

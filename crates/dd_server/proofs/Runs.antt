@@ -13,7 +13,7 @@ use Rattle.dd_wire.specs.Replies.{reply_text}
 use Rattle.dd_wire.specs.declared.reply.Reply.{Reply}
 use Rattle.dd_server.specs.declared.options.Options.{Options}
 use Rattle.dd_server.specs.Headline.{most_bytes, GivesAll, GivesFirst, GivesSome, WereRead, GivesRead, GivesWithin}
-use Rattle.dd_server.specs.Session.{State, Standing, Through, Session, opening, written}
+use Rattle.dd_server.specs.Session.{State, Standing, Through, opening, written}
 use Rattle.dd_server.specs.Turns.{IsLine, Turned, BreaksOff}
 use Rattle.dd_server.proofs.GoesOn.{through-turn, completes}
 use Rattle.dd_server.proofs.Turning.{between}

@@ -84,7 +84,7 @@ answered-too_long o s id line given h e = answered-refused o s id line (refused 
 pub answered-form : (o : Options) (s new : State) (id : ℕ) (line : List ℕ) (w : Written) (given : Reply) → built_form s line ≡ Ok w → AnsweredForm o s id w new given
     → AnsweredLine o s id line new given
 answered-form o s new id line w given is answered = (
-  answered.0 >>= admitted s,
+  answered.0 >>= admitted o s,
   (
     answered.0,
     subst (λ (t : Tested Written). AfterForm t s.peers s.symbols answered.0) (sym is) answered.1,

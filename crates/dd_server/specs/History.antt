@@ -38,10 +38,6 @@ pinned_from first (number ∷ numbers) history = version_at first history number
 abbrev pub pinned_by : List ℕ → List Accepted → Pinned
 pinned_by pin history = record { peers = pinned_from 0 pin history }
 
--- the last version of a peer
-abbrev pub present_version : ℕ → List Accepted → PeerVersion
-present_version peer history = version_at peer history (last_version peer history)
-
 -- has a pin a version of each peer from `first` on for its numbers
 abbrev pub are_versions : ℕ → List ℕ → List Accepted → Bool
 are_versions first [] history = true

@@ -1,5 +1,6 @@
 pub mod Options
 pub mod History
+pub mod Asks
 pub mod Answers
 pub mod Session
 pub mod Laws
@@ -8,4 +9,5 @@ pub mod Status
 pub mod Headline
 pub mod Turns
 pub mod Does
+pub mod Told
 pub mod Judged

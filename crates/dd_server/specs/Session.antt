@@ -3,7 +3,6 @@ use Rattle.std.specs.Prelude.{◌≡◌, ℕ, ◌+◌, ◌==◌, ◌&&◌, ◌�
 use denote.Bor.{Bor}
 use Rattle.std.specs.List.{flat_map}
 use Rattle.dd_lines.specs.Lines.{lines_of}
-use Rattle.dd_told.specs.Plain.{is_plain}
 use Rattle.dd_text.specs.Reads.{told}
 use Rattle.dd_text.specs.Symbols.{SymbolLists, number_of}
 use Rattle.dd_peer.specs.Question.{Question}
@@ -12,6 +11,8 @@ use Rattle.dd_peer.specs.declared.check.PeerErr.{PeerErr}
 use Rattle.dd_peer.specs.declared.check.PeerErr.TheVariants.{SamePeer, UnknownPeer, TooManyAxioms, TooManyRules}
 use Rattle.dd_peer.specs.declared.version.PeerVersion.{PeerVersion}
 use Rattle.dd_peer.specs.declared.version.Query.{Query}
+use Rattle.dd_task.specs.declared.job.Budget.{Budget}
+use Rattle.dd_task.specs.declared.job.Job.{Job}
 use Rattle.dd_world.specs.Faults.{IsFirstFault}
 use Rattle.dd_world.specs.World.{IsCounter}
 use Rattle.dd_world.specs.declared.world.World.{World}
@@ -34,9 +35,10 @@ use Rattle.dd_wire.specs.declared.reply.BadWorld.TheVariants as bad
 use Rattle.dd_wire.specs.declared.reply.Unread.TheVariants as unread
 use Rattle.dd_wire.specs.declared.reply.Reply.{Reply}
 use Rattle.dd_wire.specs.declared.reply.Reply.TheVariants as reply
-use Rattle.dd_server.specs.Answers.{Ask, Answer, follows, fails, memory, Answers}
+use Rattle.dd_server.specs.Answers.{Ask, Answer, follows, fails, run_spent, memory, Answers}
+use Rattle.dd_server.specs.Asks.{job_passes}
 use Rattle.dd_server.specs.declared.options.Options.{Options}
-use Rattle.dd_server.specs.History.{Accepted, last_version, present_version, pin_of, pinned_by, is_pin}
+use Rattle.dd_server.specs.History.{Accepted, last_version, pin_of, pinned_by, is_pin}
 
 abbrev pub longest_line : ℕ
 longest_line = 1048576
@@ -60,15 +62,35 @@ pub data Kept : Type 0 where
   finished : Reply → Kept
   asked : Ask → Kept
 
+-- ---- asks
+
+-- the budget of an ask; what it does not say is that of the options
+abbrev pub budget_of : Options → Option ℕ → Option ℕ → Budget
+budget_of options expansions verdicts = record { expansions = unwrap_or expansions options.expansions; verdicts = unwrap_or verdicts options.verdicts }
+
+-- the job for a query with this budget, under the pin of this moment; without rules no peer but its own bears on it
+abbrev pub job_within : State → Query → Budget → Job
+job_within state query budget = record {
+  pinned = pinned_by (pin_of (names_of state) state.history) state.history;
+  query = query;
+  relevant = query.peer ∷ [];
+  budget = budget;
+}
+
+-- an ask under the pin of this moment
+abbrev pub ask_at : Options → State → ℕ → Query → Option ℕ → Option ℕ → Ask
+ask_at options state id query expansions verdicts = record {
+  id = id;
+  pin = pin_of (names_of state) state.history;
+  job = job_within state query (budget_of options expansions verdicts);
+}
+
 -- ---- the tests of a line, in their order: the first that fails refuses it
 
--- the first put, and asks of a peer whose version is between names
+-- the first put alone
 abbrev pub is_open : State → Written → Bool
-is_open state (form.peers names) = true
 is_open state (form.put peer axioms into onto) = is_empty state.history
-is_open state (form.ask peer left right expansions verdicts) = is_plain (present_version (number_of (names_of state) peer) state.history)
-is_open state (form.check peer left right pin cert) = true
-is_open state form.versions = true
+is_open state w = true
 
 -- is the form one that is accepted so far
 abbrev pub is_built : State → Written → Bool
@@ -91,21 +113,22 @@ may_be_version None = Ok true
 may_be_version (Some e) = Err (refused_version e)
 
 -- the tests that ask what the state has, once the texts were read
-abbrev pub admits : State → SymbolLists → Parsed → Tested Bool
-admits state s (parsed.peers names) = Ok true
-admits state s (parsed.put peer axioms into onto) =
+abbrev pub admits : Options → State → SymbolLists → Parsed → Tested Bool
+admits options state s (parsed.peers names) = Ok true
+admits options state s (parsed.put peer axioms into onto) =
     may_be_version (refusal_of (version_of (names_of state) s axioms into onto) (length (names_of state)) (number_of (names_of state) peer))
-admits state s (parsed.ask peer left right expansions verdicts) = Ok true
-admits state s (parsed.check peer left right pin cert) = demand bad_pin (is_pin (names_of state) pin state.history)
-admits state s parsed.versions = Ok true
+admits options state s (parsed.ask peer left right expansions verdicts) =
+    job_passes (job_within state (query_of (names_of state) s peer left right) (budget_of options expansions verdicts))
+admits options state s (parsed.check peer left right pin cert) = demand bad_pin (is_pin (names_of state) pin state.history)
+admits options state s parsed.versions = Ok true
 
-abbrev pub admitted : State → Resolved → Tested Resolved
-admitted state r = admits state r.symbols r.request >>= (λ ok. Ok r)
+abbrev pub admitted : Options → State → Resolved → Tested Resolved
+admitted options state r = admits options state r.symbols r.request >>= (λ ok. Ok r)
 
 -- what the tests of a line find: its request, or the refusal
-abbrev pub Passes : State → List ℕ → Tested Resolved → Type 0
-Passes state line found = (texts : Tested Resolved) × AfterForm (built_form state line) state.peers state.symbols texts
-    × (found ≡ (texts >>= admitted state))
+abbrev pub Passes : Options → State → List ℕ → Tested Resolved → Type 0
+Passes options state line found = (texts : Tested Resolved) × AfterForm (built_form state line) state.peers state.symbols texts
+    × (found ≡ (texts >>= admitted options state))
 
 -- ---- reading a line
 
@@ -120,16 +143,6 @@ with_put state s peer version = record {
 -- a question under a pin
 abbrev pub question_at : State → List ℕ → Query → Question
 question_at state pin query = record { pinned = pinned_by pin state.history; query = query }
-
--- an ask under the pin of this moment; a budget that it does not name is that of the options
-abbrev pub ask_at : Options → State → ℕ → Query → Option ℕ → Option ℕ → Ask
-ask_at options state id query expansions verdicts = let pin = pin_of (names_of state) state.history in record {
-  id = id;
-  pin = pin;
-  question = question_at state pin query;
-  expansions = unwrap_or expansions options.expansions;
-  verdicts = unwrap_or verdicts options.verdicts;
-}
 
 -- why a world is no countermodel, as it is replied
 abbrev pub fault_replied : WorldFault → BadWorld
@@ -184,7 +197,7 @@ Obeys options old id (Err e) new kept = (new ≡ old) × (kept ≡ finished (rep
 
 -- a line that is a request is read: its tests decide what is done
 abbrev pub Read : Options → State → ℕ → List ℕ → State → Kept → Type 0
-Read options old id line new kept = (found : Tested Resolved) × Passes old line found × Obeys options old id found new kept
+Read options old id line new kept = (found : Tested Resolved) × Passes options old line found × Obeys options old id found new kept
 
 -- ---- finishing a window
 
@@ -192,11 +205,16 @@ Read options old id line new kept = (found : Tested Resolved) × Passes old line
 abbrev pub Replied : Ask → Answer → Reply → Type 0
 Replied ask follows given = given ≡ reply.Decided ask.id true (record { versions = ask.pin })
 Replied ask (fails w) given = given ≡ reply.Decided ask.id false (record { versions = ask.pin })
+Replied ask (run_spent run) given = given ≡ reply.RunSpent ask.id (length run.labels) run.peer (record { versions = ask.pin })
 Replied ask memory given = given ≡ reply.Memory ask.id (record { versions = ask.pin })
+
+-- the reply tells one of the answers that the ask may get
+abbrev pub TellsAnswer : Ask → Reply → Type 0
+TellsAnswer ask given = (answer : Answer) × Answers ask answer × Replied ask answer given
 
 -- an ask is finished by one of its answers, and the state stays
 abbrev pub FinishesAsk : State → Ask → State → Reply → Type 0
-FinishesAsk old ask new given = (new ≡ old) × (answer : Answer) × Answers ask answer × Replied ask answer given
+FinishesAsk old ask new given = (new ≡ old) × TellsAnswer ask given
 
 abbrev pub Finishes : State → Kept → State → Reply → Type 0
 Finishes old (finished done) new given = (new ≡ old) × (given ≡ done)

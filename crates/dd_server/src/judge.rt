@@ -1,5 +1,6 @@
-ghost use Rattle.std.specs.Prelude.{◌≡◌, ◌<◌, ◌+◌, ◌^◌, IfOk, OnErr, All, length, Result};
+ghost use Rattle.std.specs.Prelude.{◌≡◌, IfOk, OnErr, Result};
 ghost use Rattle.serde_json.specs.View.{view};
+ghost use Rattle.dd_peer.specs.Versions.{AreNumbered};
 ghost use Rattle.dd_text.specs.Symbols.{Grows};
 ghost use Rattle.dd_cert.specs.Certificates.{Tells, cert_in, Certified, Tried};
 ghost use Rattle.dd_world.specs.Faults.{judged_by, fault_of};
@@ -25,9 +26,7 @@ pub fn judge(
     query: &Query,
     cert: &Value,
 ) -> Result<Reply, NoMemory>
-    requires peers { length pinned.now.peers < 2 ^ 32 }
-    requires axioms { All (λ v. length v.axioms < 2 ^ 32) pinned.now.peers }
-    requires rules { All (λ v. length v.into + length v.onto < 2 ^ 32) pinned.now.peers }
+    requires numbered { AreNumbered pinned.now }
     ensures judges { IfOk result (Judges id (record { pinned = pinned.now; query = query.now }) (cert_in symbols.old (view cert.now))) }
     ensures grows { Grows symbols.old symbols.new }
 {
@@ -46,9 +45,7 @@ fn judge_cert(
     query: &Query,
     cert: Cert,
 ) -> Result<Reply, NoMemory>
-    requires peers { length pinned.now.peers < 2 ^ 32 }
-    requires axioms { All (λ v. length v.axioms < 2 ^ 32) pinned.now.peers }
-    requires rules { All (λ v. length v.into + length v.onto < 2 ^ 32) pinned.now.peers }
+    requires numbered { AreNumbered pinned.now }
     ensures { IfOk result (JudgesCert id (record { pinned = pinned.now; query = query.now }) cert) }
 {
     match cert {

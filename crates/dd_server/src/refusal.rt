@@ -30,15 +30,15 @@ pub fn refused_version(id: u64, e: PeerErr) -> Reply
     ensures { result ≡ reply.Refused id (refused_version e).code (refused_version e).n }
 {
     match e {
-        PeerErr::SamePeer { rule } => at(id, SAME_PEER, rule),
-        PeerErr::UnknownPeer { rule } => at(id, UNKNOWN_SOURCE, rule),
-        PeerErr::TooManyAxioms { count } => at(id, TOO_MANY_AXIOMS, count),
-        PeerErr::TooManyRules { count, .. } => at(id, TOO_MANY_RULES, count),
+        PeerErr::SamePeer { rule } => refused_at(id, SAME_PEER, rule),
+        PeerErr::UnknownPeer { rule } => refused_at(id, UNKNOWN_SOURCE, rule),
+        PeerErr::TooManyAxioms { count } => refused_at(id, TOO_MANY_AXIOMS, count),
+        PeerErr::TooManyRules { count, .. } => refused_at(id, TOO_MANY_RULES, count),
     }
 }
 
 /// The refusal with this code and this number.
-fn at(id: u64, code: u8, n: u32) -> Reply
+pub fn refused_at(id: u64, code: u8, n: u32) -> Reply
     ensures { result ≡ reply.Refused id code (Some n) }
 {
     Reply::Refused {

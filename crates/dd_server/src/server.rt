@@ -1,7 +1,7 @@
 ghost use Rattle.std.specs.Prelude.{◌≡◌, ◌<◌, ◌≤◌, ◌+◌, ◌^◌, ℕ, ◌∷◌, [], List, All, true, false, IfOk, IfSome, IsSome, IsTrue, length, Ok, slice_get, None, Some, cond};
 ghost use Rattle.std.specs.Option.{ForSome};
 ghost use Rattle.serde_json.specs.View.{view};
-ghost use Rattle.dd_peer.specs.Versions.{empty_version};
+ghost use Rattle.dd_peer.specs.Versions.{AreNumbered, IsNumbered, empty_version};
 ghost use Rattle.dd_text.specs.Names.{names_a_thing};
 ghost use Rattle.dd_text.specs.Symbols.{SymbolLists, Grows};
 ghost use Rattle.dd_wire.specs.Forms.{written_of};
@@ -9,15 +9,17 @@ ghost use Rattle.dd_wire.specs.Placed.{are_peers};
 ghost use Rattle.dd_wire.specs.Refusal.{Tested};
 ghost use Rattle.dd_server.specs.Does.{CutsTo};
 
+use crate::ask::{budget_of, full_closure, reply_to_ask};
 use crate::judge::judge;
 use crate::options::Options;
-use crate::refusal::{refused, refused_line, refused_version};
+use crate::refusal::{refused, refused_at, refused_line, refused_version};
 use dd_concept::{Items, NoMemory};
 use dd_peer::{PeerVersion, Pinned, Query, Shared};
+use dd_task::{Budget, Job};
 use dd_text::{Mark, Symbols};
-use dd_told::{Version, decide};
 use dd_wire::{
-    BAD_PIN, Form, NOT_BUILT, Names, Pin, Reply, Request, Text, is_accepted_form, resolve,
+    BAD_BUDGET, BAD_PIN, CLOSURE_FULL, Form, NOT_BUILT, Names, Pin, Reply, Request, Text,
+    is_accepted_form, resolve,
 };
 use serde_json::Value;
 use std::alloc::Global;
@@ -29,21 +31,22 @@ pub struct Server {
     pub options: Options,
     pub symbols: Symbols,
     pub names: Option<Names>,
-    pub put: Option<Version>,
+    pub put: Option<Shared<PeerVersion>>,
     ghost only: { ForSome names (λ ns. length ns ≡ 1) },
+    ghost numbered: { ForSome put IsNumbered },
+    ghost no_onto: { ForSome put (λ v. length v.onto ≡ 0) },
 }
 
 impl Server {
-    ghost use Rattle.dd_told.specs.Plain.{is_plain};
-    ghost use Rattle.dd_told.specs.Verdict.{AsksNames, Decides};
+    ghost use Rattle.dd_run.specs.Fit.{IsAlone};
     ghost use Rattle.dd_wire.specs.Replies.{IsPrintable};
     ghost use Rattle.dd_wire.specs.Requests.{IsNumberedRequest};
     ghost use Rattle.dd_wire.specs.declared.request.Request.TheVariants as request;
-    ghost use Rattle.dd_server.specs.Session.{start, is_open, is_built, names_of, question_at, ask_at, FinishesAsk};
+    ghost use Rattle.dd_server.specs.Session.{start, is_open, is_built, names_of, question_at, ask_at, job_within};
     ghost use Rattle.dd_wire.specs.Accepted.{is_accepted};
     ghost use Rattle.dd_server.specs.ServerState.{state_of};
-    ghost use Rattle.dd_server.specs.History.{pin_of, is_pin, pinned_by, version_at, present_version, last_version};
-    ghost use Rattle.dd_server.specs.Does.{DoesAlone, Fits, AnsweredForm, PutBy, CheckBy};
+    ghost use Rattle.dd_server.specs.History.{pin_of, is_pin, pinned_by, version_at, last_version};
+    ghost use Rattle.dd_server.specs.Does.{DoesAlone, Fits, AnsweredForm, PutBy, AskWithin, CheckBy};
 
     /// The session before its first request.
     pub fn new(alloc: Global, options: Options) -> Result<Server, NoMemory>
@@ -66,13 +69,12 @@ impl Server {
     }
 
     fn is_open(&self, form: &Form) -> bool
-        requires { is_accepted (state_of self.now).peers (written_of form.now) ≡ true }
         ensures { result ≡ is_open (state_of self.now) (written_of form.now) }
     {
         match form {
             Form::Put { .. } => self.put.is_none(),
-            Form::Ask { .. } => self.is_plain(),
             Form::Peers(_) => true,
+            Form::Ask { .. } => true,
             Form::Check { .. } => true,
             Form::Versions => true,
         }
@@ -112,11 +114,11 @@ impl Server {
         match request {
             Request::Peers(names) => self.declare(alloc, id, names),
             Request::Put { peer, version } => self.put(alloc, id, mark, peer, version),
-            Request::Ask { query, .. } => {
-                let reply = self.ask(alloc, id, &query);
-                drop(query);
-                reply
-            }
+            Request::Ask {
+                query,
+                expansions,
+                verdicts,
+            } => self.ask(alloc, id, mark, query, expansions, verdicts),
             Request::Check { query, pin, cert } => self.check(alloc, id, mark, query, pin, cert),
             Request::Versions => Ok(refused(id, NOT_BUILT)),
         }
@@ -179,13 +181,14 @@ impl Server {
     ) -> Result<Reply, NoMemory>
         requires first { (state_of self.old).history ≡ [] }
         requires declared { peer < length (names_of (state_of self.old)) }
-        requires numbered { IsNumberedRequest (request.Put peer version) }
+        requires numbered { IsNumbered version }
+        requires no_onto { version.onto ≡ [] }
         ensures stores { IfOk result (PutBy None (state_of self.old) id self.old.symbols peer version (state_of self.new)) }
         ensures printable { IfOk result IsPrintable }
         ensures options { self.new.options ≡ self.old.options }
     {
         let put = self.peer_name(alloc, peer)?;
-        self.put = Some(Version::new(alloc, version)?);
+        self.put = Some(Shared::new(alloc, version)?);
         Ok(Reply::Put {
             id,
             put,
@@ -205,28 +208,78 @@ impl Server {
         }
     }
 
-    fn ask(&mut self, alloc: Global, id: u64, query: &Query) -> Result<Reply, NoMemory>
-        requires names { AsksNames query.now }
-        requires plain { is_plain (present_version 0 (state_of self.old).history) ≡ true }
+    fn ask(
+        &mut self,
+        alloc: Global,
+        id: u64,
+        mark: Mark,
+        query: Query,
+        expansions: Option<u64>,
+        verdicts: Option<u64>,
+    ) -> Result<Reply, NoMemory>
+        requires asked { query.peer ≡ 0 }
         requires declared { IsSome self.old.names }
-        ensures finishes { IfOk result (λ reply. FinishesAsk (state_of self.old) (ask_at self.old.options (state_of self.old) id query.now None None) (state_of self.new) reply) }
+        requires names { mark.names ≤ length self.old.symbols.names }
+        requires roles { mark.roles ≤ length self.old.symbols.roles }
+        ensures does { IfOk result (λ reply. (before : SymbolLists) → CutsTo mark self.old.symbols before
+            → DoesAlone self.old.options (record (state_of self.old) { symbols = before }) id self.old.symbols (request.Ask query expansions verdicts) (state_of self.new) reply) }
+        ensures printable { IfOk result IsPrintable }
+        ensures options { self.new.options ≡ self.old.options }
+    {
+        match budget_of(self.options, expansions, verdicts) {
+            Some(budget) => self.ask_within(alloc, id, mark, query, budget),
+            None => {
+                self.symbols.back(mark);
+                Ok(refused(id, BAD_BUDGET))
+            }
+        }
+    }
+
+    /// The reply to an ask whose budget is within its limits.
+    fn ask_within(
+        &mut self,
+        alloc: Global,
+        id: u64,
+        mark: Mark,
+        query: Query,
+        budget: Budget,
+    ) -> Result<Reply, NoMemory>
+        requires asked { query.peer ≡ 0 }
+        requires declared { IsSome self.old.names }
+        requires names { mark.names ≤ length self.old.symbols.names }
+        requires roles { mark.roles ≤ length self.old.symbols.roles }
+        ensures does { IfOk result (λ reply. (before : SymbolLists) → CutsTo mark self.old.symbols before
+            → AskWithin (record (state_of self.old) { symbols = before }) id self.old.symbols query budget (state_of self.new) reply) }
         ensures printable { IfOk result IsPrintable }
         ensures options { self.new.options ≡ self.old.options }
     {
         let pin = self.pin(alloc)?;
-        match self.decide(alloc, query) {
-            Ok(yes) => return Ok(Reply::Decided { id, yes, pin }),
-            Err(_) => return Ok(Reply::Memory { id, pin }),
+        let job = self.job(alloc, query, budget)?;
+        match full_closure(alloc, &job)? {
+            None => Ok(reply_to_ask(alloc, id, pin, &job)),
+            Some(count) => {
+                self.symbols.back(mark);
+                Ok(refused_at(id, CLOSURE_FULL, count))
+            }
         }
     }
 
-    /// Whether the right name is above the left one, at the present version.
-    fn decide(&self, alloc: Global, query: &Query) -> Result<bool, NoMemory>
-        requires names { AsksNames query.now }
-        requires plain { is_plain (present_version 0 (state_of self.now).history) ≡ true }
-        ensures { IfOk result (λ verdict. Decides (present_version 0 (state_of self.now).history) query.now verdict) }
+    /// The job for a query with this budget, under the present pin.
+    fn job(&self, alloc: Global, query: Query, budget: Budget) -> Result<Job, NoMemory>
+        requires asked { query.peer ≡ 0 }
+        requires declared { IsSome self.now.names }
+        ensures job { IfOk result (λ job. job ≡ job_within (state_of self.now) query budget) }
+        ensures alone { IfOk result IsAlone }
     {
-        decide(alloc, self.put.as_ref(), query)
+        let pinned = self.pinned_at(alloc, self.last())?;
+        let mut relevant = Items::new(alloc);
+        relevant.push(query.peer)?;
+        Ok(Job {
+            pinned,
+            query,
+            relevant,
+            budget,
+        })
     }
 
     /// The present pin.
@@ -310,9 +363,7 @@ impl Server {
         requires pin { is_pin (names_of (state_of self.now)) pin.now.versions (state_of self.now).history ≡ true }
         requires declared { IsSome self.now.names }
         ensures pinned { IfOk result (λ pinned. pinned ≡ pinned_by pin.now.versions (state_of self.now).history) }
-        ensures one { IfOk result (λ pinned. length pinned.peers ≡ 1) }
-        ensures axioms { IfOk result (λ pinned. All (λ v. length v.axioms < 2 ^ 32) pinned.peers) }
-        ensures rules { IfOk result (λ pinned. All (λ v. length v.into + length v.onto < 2 ^ 32) pinned.peers) }
+        ensures numbered { IfOk result AreNumbered }
     {
         match pin.versions.as_slice() {
             [number] => self.pinned_at(alloc, *number),
@@ -324,9 +375,7 @@ impl Server {
     fn pinned_at(&self, alloc: Global, number: u32) -> Result<Pinned, NoMemory>
         requires { number ≤ last_version 0 (state_of self.now).history }
         ensures pinned { IfOk result (λ pinned. pinned ≡ pinned_by (number ∷ []) (state_of self.now).history) }
-        ensures one { IfOk result (λ pinned. length pinned.peers ≡ 1) }
-        ensures axioms { IfOk result (λ pinned. All (λ v. length v.axioms < 2 ^ 32) pinned.peers) }
-        ensures rules { IfOk result (λ pinned. All (λ v. length v.into + length v.onto < 2 ^ 32) pinned.peers) }
+        ensures numbered { IfOk result AreNumbered }
     {
         let mut peers = Items::new(alloc);
         peers.push(self.version_at(alloc, number)?)?;
@@ -337,28 +386,17 @@ impl Server {
     fn version_at(&self, alloc: Global, number: u32) -> Result<Shared<PeerVersion>, NoMemory>
         requires { number ≤ last_version 0 (state_of self.now).history }
         ensures version { IfOk result (λ v. v ≡ version_at 0 (state_of self.now).history number) }
-        ensures axioms { IfOk result (λ v. length v.axioms < 2 ^ 32) }
-        ensures rules { IfOk result (λ v. length v.into + length v.onto < 2 ^ 32) }
+        ensures numbered { IfOk result IsNumbered }
     {
         match &self.put {
             Some(put) => {
                 if number == 0 {
                     empty_version(alloc)
                 } else {
-                    put.version.share()
+                    put.share()
                 }
             }
             None => empty_version(alloc),
-        }
-    }
-
-    /// Whether the present version has axioms between names alone and no rules.
-    fn is_plain(&self) -> bool
-        ensures { result ≡ is_plain (present_version 0 (state_of self.now).history) }
-    {
-        match &self.put {
-            Some(version) => version.is_plain(),
-            None => true,
         }
     }
 }

@@ -22,12 +22,11 @@ is_empty (x ∷ xs) = false
 abbrev pub is_derivation : Data → Bool
 is_derivation cert = says (codes "kind") (codes "yes") cert
 
--- The first declaration, of one name; puts without rules, asks between names without budgets, and checks of what is no
+-- The first declaration, of one name; puts without rules, asks without a limit of verdicts, and checks of what is no
 -- derivation, each of a declared peer.
 abbrev pub is_accepted : Option (List (List ℕ)) → Written → Bool
 is_accepted names (peers ns) = not (is_some names) && is_one_name ns
 is_accepted names (put peer axioms into onto) = is_declared names peer && is_empty into && is_empty onto
-is_accepted names (ask peer left right expansions verdicts) =
-    is_declared names peer && names_a_thing left && names_a_thing right && not (is_some expansions) && not (is_some verdicts)
+is_accepted names (ask peer left right expansions verdicts) = is_declared names peer && not (is_some verdicts)
 is_accepted names (check peer left right pin cert) = is_declared names peer && not (is_derivation cert)
 is_accepted names versions = false

@@ -78,6 +78,12 @@ too_many_axioms = 9
 abbrev pub too_many_rules : ℕ
 too_many_rules = 10
 
+abbrev pub bad_budget : ℕ
+bad_budget = 14
+
+abbrev pub closure_full : ℕ
+closure_full = 15
+
 abbrev pub bad_pin : ℕ
 bad_pin = 18
 
@@ -99,5 +105,7 @@ error_name code =
     else if code == unknown_source then codes "unknown_source"
     else if code == too_many_axioms then codes "too_many_axioms"
     else if code == too_many_rules then codes "too_many_rules"
+    else if code == bad_budget then codes "bad_budget"
+    else if code == closure_full then codes "closure_full"
     else if code == bad_pin then codes "bad_pin"
     else []

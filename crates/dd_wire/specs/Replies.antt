@@ -9,7 +9,7 @@ use Rattle.dd_wire.specs.declared.reply.BadWorld.TheVariants as fault
 use Rattle.dd_wire.specs.declared.reply.Unread.{Unread}
 use Rattle.dd_wire.specs.declared.reply.Unread.TheVariants as unread
 use Rattle.dd_wire.specs.declared.reply.Reply.{Reply}
-use Rattle.dd_wire.specs.declared.reply.Reply.TheVariants.{Refused, Peers, Put, Decided, Memory, Valid, InvalidWorld, Unreadable}
+use Rattle.dd_wire.specs.declared.reply.Reply.TheVariants.{Refused, Peers, Put, Decided, RunSpent, Memory, Valid, InvalidWorld, Unreadable}
 
 abbrev pub whole_number : ℕ → Data
 whole_number n = number (unsigned n)
@@ -34,6 +34,12 @@ verdict_name false = codes "no"
 abbrev pub verdict_data : ℕ → List ℕ → List ℕ → Data
 verdict_data id pin verdict = object (member (codes "id") (whole_number id) (member (codes "pin") (numbers pin)
     (member (codes "verdict") (string verdict) no_members)))
+
+-- the reply to an ask whose run at this peer put so many labels
+abbrev pub spent_data : ℕ → List ℕ → ℕ → ℕ → Data
+spent_data id pin count peer = object (member (codes "count") (whole_number count) (member (codes "id") (whole_number id)
+    (member (codes "peer") (whole_number peer) (member (codes "pin") (numbers pin)
+    (member (codes "spent") (string (codes "run")) (member (codes "verdict") (string (codes "spent")) no_members))))))
 
 -- a world's fault, at a place where it has one
 abbrev pub plain_fault : List ℕ → ℕ → Data
@@ -74,6 +80,7 @@ reply_data (Peers id count) = object (member (codes "id") (whole_number id) (mem
 reply_data (Put id put version) = object (member (codes "id") (whole_number id) (member (codes "put") (string put)
     (member (codes "version") (whole_number version) no_members)))
 reply_data (Decided id verdict pin) = verdict_data id pin.versions (verdict_name verdict)
+reply_data (RunSpent id count peer pin) = spent_data id pin.versions count peer
 reply_data (Memory id pin) = verdict_data id pin.versions (codes "memory")
 reply_data (Valid id) = object (member (codes "check") (string (codes "valid")) (member (codes "id") (whole_number id) no_members))
 reply_data (InvalidWorld id fault) = fault_data id fault

@@ -8,8 +8,8 @@ use crate::names::Names;
 use dd_json::Text;
 use dd_text::is_name;
 
-/// Whether a form is accepted so far: the first declaration, of one name; puts without rules, asks between names without
-/// budgets, and checks of what is no derivation, each of a declared peer.
+/// Whether a form is accepted so far: the first declaration, of one name; puts without rules, asks without a limit of
+/// verdicts, and checks of what is no derivation, each of a declared peer.
 pub fn is_accepted_form(names: Option<&Names>, form: &Form) -> bool
     ensures { result ≡ is_accepted (option_copied names.entry) (written_of form.now) }
 {
@@ -25,18 +25,8 @@ pub fn is_accepted_form(names: Option<&Names>, form: &Form) -> bool
                 && into.as_slice().is_empty()
                 && onto.as_slice().is_empty()
         }
-        Form::Ask {
-            peer,
-            left,
-            right,
-            expansions,
-            verdicts,
-        } => {
-            is_declared(names, peer.as_slice())
-                && is_name(left.as_slice())
-                && is_name(right.as_slice())
-                && expansions.is_none()
-                && verdicts.is_none()
+        Form::Ask { peer, verdicts, .. } => {
+            is_declared(names, peer.as_slice()) && verdicts.is_none()
         }
         Form::Check { peer, cert, .. } => {
             is_declared(names, peer.as_slice()) && !says(cert, "kind", "yes")

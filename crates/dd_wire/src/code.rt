@@ -46,6 +46,12 @@ pub const TOO_MANY_AXIOMS: u8 = 9;
 /// A version has too many rules of one kind from one peer.
 pub const TOO_MANY_RULES: u8 = 10;
 
+/// An ask's budget is out of its range.
+pub const BAD_BUDGET: u8 = 14;
+
+/// The closure of a peer that bears on an ask has too many concepts.
+pub const CLOSURE_FULL: u8 = 15;
+
 /// A pin names no version of some peer, or has not one number per peer.
 pub const BAD_PIN: u8 = 18;
 
@@ -69,6 +75,8 @@ pub fn name_of(code: u8) -> &'static str
         UNKNOWN_SOURCE => "unknown_source",
         TOO_MANY_AXIOMS => "too_many_axioms",
         TOO_MANY_RULES => "too_many_rules",
+        BAD_BUDGET => "bad_budget",
+        CLOSURE_FULL => "closure_full",
         BAD_PIN => "bad_pin",
         _ => "",
     }

@@ -2,8 +2,8 @@ ghost use Rattle.std.specs.Prelude.{◌≡◌, IfOk, IsTrue, codes};
 ghost use Rattle.serde_json.specs.Data.{put, string, object, member, no_members};
 ghost use Rattle.serde_json.specs.View.{view, members_view};
 ghost use Rattle.dd_text.specs.Names.{names_a_thing};
-ghost use Rattle.dd_wire.specs.Replies.{numbers, whole_number, verdict_name, verdict_data, unread_number, unread_text, placed_fault, fault_data, unread_data, reply_data, reply_text, IsPrintable};
-ghost use Rattle.dd_wire.specs.Steps.{put_maybe, outcome_members};
+ghost use Rattle.dd_wire.specs.Replies.{numbers, whole_number, verdict_name, verdict_data, spent_data, unread_number, unread_text, placed_fault, fault_data, unread_data, reply_data, reply_text, IsPrintable};
+ghost use Rattle.dd_wire.specs.Steps.{put_maybe, ask_members, outcome_members};
 
 use crate::code::name_of;
 use crate::reply::{BadWorld, Reply, Unread};
@@ -31,6 +31,12 @@ fn value_of(alloc: Global, reply: &Reply) -> Result<Value, NoMemory>
         Reply::Peers { id, count } => peers(alloc, *id, *count),
         Reply::Put { id, put, version } => stored(alloc, *id, put.as_slice(), *version),
         Reply::Decided { id, yes, pin } => asked(alloc, *id, pin, verdict(*yes)),
+        Reply::RunSpent {
+            id,
+            count,
+            peer,
+            pin,
+        } => run_spent(alloc, *id, *count, *peer, pin),
         Reply::Memory { id, pin } => asked(alloc, *id, pin, "memory"),
         Reply::Valid { id } => valid(alloc, *id),
         Reply::InvalidWorld { id, fault } => invalid(alloc, *id, fault),
@@ -89,9 +95,17 @@ fn name_text(name: &[u8]) -> &str
 fn asked(alloc: Global, id: u64, pin: &Pin, verdict: &str) -> Result<Value, NoMemory>
     ensures { IfOk result (λ value. view value ≡ verdict_data id pin.now.versions verdict.now) }
 {
-    let reply = of_request(alloc, id)?;
-    let reply = with_numbers(alloc, reply, "pin", pin.versions.as_slice())?;
-    let reply = with_text(alloc, reply, "verdict", verdict)?;
+    let reply = of_ask(alloc, id, pin, verdict)?;
+    Ok(Value::Object(reply))
+}
+
+fn run_spent(alloc: Global, id: u64, count: u64, peer: u32, pin: &Pin) -> Result<Value, NoMemory>
+    ensures { IfOk result (λ value. view value ≡ spent_data id pin.now.versions count peer) }
+{
+    let reply = of_ask(alloc, id, pin, "spent")?;
+    let reply = with(alloc, reply, "count", Value::from(count))?;
+    let reply = with(alloc, reply, "peer", Value::from(peer))?;
+    let reply = with_text(alloc, reply, "spent", "run")?;
     Ok(Value::Object(reply))
 }
 
@@ -177,6 +191,15 @@ fn of_request(alloc: Global, id: u64) -> Result<Map<String, Value>, NoMemory>
     ensures { IfOk result (λ new. members_view new.entries ≡ member (codes "id") (whole_number id) no_members) }
 {
     with(alloc, Map::new(alloc), "id", Value::from(id))
+}
+
+/// The members of a reply to an ask, with this verdict.
+fn of_ask(alloc: Global, id: u64, pin: &Pin, verdict: &str) -> Result<Map<String, Value>, NoMemory>
+    ensures { IfOk result (λ new. members_view new.entries ≡ ask_members id pin.now.versions verdict.now) }
+{
+    let reply = of_request(alloc, id)?;
+    let reply = with_numbers(alloc, reply, "pin", pin.versions.as_slice())?;
+    with_text(alloc, reply, "verdict", verdict)
 }
 
 /// The members of a reply to a check.

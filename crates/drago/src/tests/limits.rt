@@ -64,13 +64,22 @@ const LIMITS: &str = r#"
 < {"code":11,"error":"concept_limit","id":2,"n":0}
 > {"op":"check","peer":"a","left":"~100000*(not ~A~100000*)~","right":"(","pin":[0],"cert":{}}
 < {"code":3,"error":"bad_concept","id":3,"n":1}
-# Concepts are not asked about yet, however deep they are.
-> {"op":"ask","peer":"a","left":"(not A)","right":"B"}
-< {"code":17,"error":"not_built","id":4}
 > {"op":"ask","peer":"a","left":"~63*(not ~A~63*)~","right":"B"}
-< {"code":17,"error":"not_built","id":5}
+< {"id":4,"pin":[0],"verdict":"no"}
 > {"op":"ask","peer":"a","left":"~64*(not ~A~64*)~","right":"B"}
-< {"code":17,"error":"not_built","id":6}
+< {"code":11,"error":"concept_limit","id":5,"n":0}
+> {"op":"ask","peer":"a","left":"B","right":"~100000*(not ~A~100000*)~"}
+< {"code":11,"error":"concept_limit","id":6,"n":1}
+---
+# The sides of an ask have at most 1,000 nodes.
+> {"op":"peers","names":["a"]}
+< {"id":1,"peers":1}
+> {"op":"ask","peer":"a","left":"~30*(and ^31*(not ^A^31*)^ ~^9*(not ^A^9*)^~30*)~","right":"~30*(and ^31*(not ^A^31*)^ ~^9*(not ^A^9*)^~30*)~"}
+< {"id":2,"pin":[0],"verdict":"yes"}
+> {"op":"ask","peer":"a","left":"~30*(and ^31*(not ^A^31*)^ ~^10*(not ^A^10*)^~30*)~","right":"A"}
+< {"code":11,"error":"concept_limit","id":3,"n":0}
+> {"op":"ask","peer":"a","left":"A","right":"~30*(and ^31*(not ^A^31*)^ ~^10*(not ^A^10*)^~30*)~"}
+< {"code":11,"error":"concept_limit","id":4,"n":1}
 ---
 # An axiom outside the grammar comes before one that is too deep, and that before the number of axioms, which is at most 2,000.
 > {"op":"peers","names":["a"]}
@@ -108,4 +117,25 @@ const LIMITS: &str = r#"
 #[test]
 fn what_is_above_a_limit_is_refused(rt: HostRuntime) -> Result<(), Failure> {
     follows(rt.alloc(), LIMITS)
+}
+
+/// Asks of a peer whose closure is as large as it may be, and larger.
+const CLOSURES: &str = r#"
+# The closure of a peer has at most 4,096 concepts: 2,000 axioms bring 4,002, and the sides 95 or 94 more.
+> {"op":"peers","names":["a"]}
+< {"id":1,"peers":1}
+> {"op":"put","peer":"a","axioms":["(implies (and A X) Y)"~1999*,"(implies (and A# X) Y)"~]}
+< {"id":2,"put":"a","version":1}
+> {"op":"ask","peer":"a","left":"~45*(and L# ~L~45*)~","right":"(or V (some r W))"}
+< {"code":15,"error":"closure_full","id":3,"n":4097}
+# The budget is tested before it.
+> {"op":"ask","peer":"a","left":"~45*(and L# ~L~45*)~","right":"(or V (some r W))","expansions":0}
+< {"code":14,"error":"bad_budget","id":4}
+> {"op":"ask","peer":"a","left":"~45*(and L# ~L~45*)~","right":"(or V W)"}
+< {"id":5,"pin":[1],"verdict":"no"}
+"#;
+
+#[test]
+fn a_closure_above_its_limit_is_refused(rt: HostRuntime) -> Result<(), Failure> {
+    follows(rt.alloc(), CLOSURES)
 }

@@ -95,11 +95,11 @@ const REFUSED: &str = r#"
 < {"code":17,"error":"not_built","id":44}
 > {"op":"ask","peer":"b","left":"A","right":"C"}
 < {"code":17,"error":"not_built","id":45}
-> {"op":"ask","peer":"a","left":"A","right":"top"}
+> {"op":"ask","peer":"a","left":"A","right":"C","verdicts":1}
 < {"code":17,"error":"not_built","id":46}
-> {"op":"ask","peer":"a","left":"(not A","right":"C"}
+> {"op":"ask","peer":"a","left":"(not A","right":"C","verdicts":1}
 < {"code":17,"error":"not_built","id":47}
-> {"op":"ask","peer":"a","left":"A","right":"C","expansions":0}
+> {"op":"ask","peer":"a","left":"A","right":"C","expansions":0,"verdicts":0}
 < {"code":17,"error":"not_built","id":48}
 > {"op":"ask","peer":"a","left":"A","right":"C","verdicts":18446744073709551615}
 < {"code":17,"error":"not_built","id":49}
@@ -184,6 +184,27 @@ const REFUSED: &str = r#"
 < {"check":"valid","id":87}
 > {"op":"ask","peer":"a","left":"A","right":"C"}
 < {"id":88,"pin":[1],"verdict":"yes"}
+# An ask is refused by its texts, then by their sizes, then by its budget.
+> {"op":"ask","peer":"a","left":"(not A","right":"(","expansions":0}
+< {"code":3,"error":"bad_concept","id":89,"n":0}
+> {"op":"ask","peer":"a","left":"~64*(not ~A~64*)~","right":"C D","expansions":0}
+< {"code":3,"error":"bad_concept","id":90,"n":1}
+> {"op":"ask","peer":"a","left":"A","right":"~64*(not ~A~64*)~","expansions":0}
+< {"code":11,"error":"concept_limit","id":91,"n":1}
+> {"op":"ask","peer":"a","left":"A","right":"C","expansions":0}
+< {"code":14,"error":"bad_budget","id":92}
+> {"op":"ask","peer":"a","left":"A","right":"C","expansions":1}
+< {"count":1,"id":93,"peer":0,"pin":[1],"spent":"run","verdict":"spent"}
+> {"op":"ask","peer":"a","left":"A","right":"C","expansions":200000}
+< {"id":94,"pin":[1],"verdict":"yes"}
+> {"op":"ask","peer":"a","left":"A","right":"C","expansions":200001}
+< {"code":14,"error":"bad_budget","id":95}
+> {"op":"ask","peer":"a","left":"A","right":"C","expansions":9223372036854775808}
+< {"code":14,"error":"bad_budget","id":96}
+> {"op":"ask","peer":"a","left":"A","right":"C","expansions":18446744073709551615}
+< {"code":14,"error":"bad_budget","id":97}
+> {"op":"ask","peer":"a","left":"A","right":"C"}
+< {"id":98,"pin":[1],"verdict":"yes"}
 "#;
 
 #[test]

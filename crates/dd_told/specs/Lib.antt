@@ -1,4 +1,0 @@
-pub mod Plain
-pub mod Above
-pub mod IsIndexed
-pub mod Verdict
