@@ -1,4 +1,4 @@
-ghost use Rattle.std.specs.Prelude.{◌≡◌, ◌≤◌, All, IfOk, length, ⊤};
+ghost use Rattle.std.specs.Prelude.{◌≡◌, ◌≤◌, [], All, IfOk, length, ⊤};
 ghost use Rattle.dd_concept.specs.Normal.{IsNormal};
 ghost use Rattle.dd_rules.specs.Compiled.{AreProps};
 
@@ -52,7 +52,8 @@ impl Row for OnLabel {
     }
 }
 
-fn compiled(alloc: Global, peer: &Peer) -> Result<Compiled, NoMemory> {
+/// The same with its own symbols.
+pub fn compiled(alloc: Global, peer: &Peer) -> Result<Compiled, NoMemory> {
     let mut symbols = Symbols::new(alloc)?;
     let found = compiled_with(alloc, &mut symbols, peer);
     drop(symbols);
@@ -122,7 +123,7 @@ fn goal(alloc: Global, ask: &Axiom) -> Result<Vec<Concept>, NoMemory>
 }
 
 /// Puts the numbers that are below the label's width into it.
-fn put(label: &mut Bits, numbers: &[u32])
+pub fn put(label: &mut Bits, numbers: &[u32])
     ensures { label.new.width ≡ label.old.width }
 {
     for n in numbers {
@@ -140,6 +141,15 @@ fn found(alloc: Global, compiled: &Compiled, row: &OnLabel) -> Result<Vec<u32>, 
     found
 }
 
+/// No propagation.
+pub fn no_props(alloc: Global) -> Props
+    ensures { result.list ≡ [] }
+{
+    Props {
+        list: Items::new(alloc),
+    }
+}
+
 /// What is answered where no propagation is there.
 fn with_props(
     alloc: Global,
@@ -149,9 +159,7 @@ fn with_props(
 ) -> Result<Vec<u32>, NoMemory>
     requires { label.old.width ≡ length compiled.now.concepts }
 {
-    let props = Props {
-        list: Items::new(alloc),
-    };
+    let props = no_props(alloc);
     let found = told(alloc, compiled, label, &props, asked);
     drop(props);
     found

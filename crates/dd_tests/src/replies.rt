@@ -4,9 +4,9 @@ ghost use Rattle.dd_wire.specs.Replies.{IsPrintable};
 use crate::rows::{Failure, Row, check};
 use dd_concept::NoMemory;
 use dd_wire::{
-    BAD_CONCEPT, BAD_JSON, BAD_PEERS, BAD_PIN, BAD_SHAPE, BadWorld, CONCEPT_LIMIT, LINE_TOO_LONG,
-    NO_PEERS, NOT_BUILT, PEERS_TWICE, Reply, SAME_PEER, SYMBOLS_FULL, TOO_MANY_AXIOMS,
-    TOO_MANY_RULES, UNKNOWN_PEER, UNKNOWN_SOURCE, print_reply,
+    BAD_BUDGET, BAD_CONCEPT, BAD_JSON, BAD_PEERS, BAD_PIN, BAD_SHAPE, BadWorld, CLOSURE_FULL,
+    CONCEPT_LIMIT, LINE_TOO_LONG, NO_PEERS, NOT_BUILT, PEERS_TWICE, Reply, SAME_PEER, SYMBOLS_FULL,
+    TOO_MANY_AXIOMS, TOO_MANY_RULES, UNKNOWN_PEER, UNKNOWN_SOURCE, print_reply,
 };
 use std::alloc::Global;
 
@@ -98,6 +98,14 @@ const CODES: &[Code] = &[
     Code {
         code: TOO_MANY_RULES,
         text: r#"{"code":10,"error":"too_many_rules","id":1}"#,
+    },
+    Code {
+        code: BAD_BUDGET,
+        text: r#"{"code":14,"error":"bad_budget","id":1}"#,
+    },
+    Code {
+        code: CLOSURE_FULL,
+        text: r#"{"code":15,"error":"closure_full","id":1}"#,
     },
     Code {
         code: BAD_PIN,
