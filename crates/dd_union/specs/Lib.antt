@@ -1,0 +1,4 @@
+pub mod Union
+pub mod Laws
+pub mod Pieces
+pub mod Evidence

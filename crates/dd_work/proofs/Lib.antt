@@ -1,0 +1,5 @@
+pub mod Lists
+pub mod Extending
+pub mod Taking
+pub mod Posting
+pub mod Fitting

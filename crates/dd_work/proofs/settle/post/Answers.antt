@@ -1,0 +1,22 @@
+use Rattle.std.proofs.Common.{◌∙◌, ap, subst, sym}
+use Rattle.dd_work.specs.Settled.{ExtendEach}
+use Rattle.dd_work.proofs.Extending.{extend-both, extend-same}
+use Rattle.dd_work.proofs.Posting.{give-extends, post-extends, post-fewer, post-free}
+use Rattle.dd_work.proofs.settle.post.Goals as goal
+
+pub returns-in-Ok-clause-extends : goal.returns-in-Ok-clause-extends
+returns-in-Ok-clause-extends c =
+    post-extends c.args.board.now c.post.new.self c.args.ticket c.args.verdict c.requires.out c.in-Ok.field-0 c.in-Ok.ensures.posted
+
+pub returns-in-Ok-clause-free : goal.returns-in-Ok-clause-free
+returns-in-Ok-clause-free c =
+    post-free c.args.board.now c.post.new.self c.args.ticket c.args.verdict c.requires.out c.in-Ok.field-0 c.in-Ok.ensures.posted
+
+pub returns-in-Ok-clause-fewer : goal.returns-in-Ok-clause-fewer
+returns-in-Ok-clause-fewer c =
+    post-fewer c.args.board.now c.post.new.self c.args.ticket c.args.verdict c.requires.out c.in-Ok.field-0 c.in-Ok.ensures.posted
+
+pub returns-clause-extends : goal.returns-clause-extends
+returns-clause-extends c =
+    extend-both c.args.board.now c.post.new.self c.give_back.new.self (extend-same c.args.board.now c.post.new.self c.in-Err.ensures.kept)
+    (give-extends c.post.new.self c.give_back.new.self c.in-Err.ticket c.give_back.result c.give_back.ensures)
