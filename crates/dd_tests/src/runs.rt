@@ -2,11 +2,11 @@ ghost use Rattle.std.specs.Prelude.{◌≡◌, ◌∷◌, [], IfOk, ⊤};
 ghost use Rattle.dd_run.specs.Fit.{HasFewConcepts, IsAlone};
 
 use crate::rows::{Failure, Row, check};
-use dd_answer::Answer;
+use crate::tasks::two_peers;
 use dd_concept::{Axiom, Concept, Items, NoMemory, Shared};
 use dd_peer::{PeerVersion, Pinned, Query};
-use dd_run::{ClosureErr, answer_alone, check_closures, verdict_of};
-use dd_task::{Budget, Job, Key, Verdict, goal_of};
+use dd_run::{Answered, ClosureErr, Found, answer_alone, check_closures, search};
+use dd_task::{Budget, Job, Key, Prop, goal_of};
 use dd_text::{REQUEST, Symbols, read_axiom};
 use std::alloc::Global;
 
@@ -15,7 +15,7 @@ const YES: u32 = 0;
 
 const NO: u32 = 1;
 
-/// A run was spent, with so many labels in so many concepts.
+/// The run was spent, with so many labels in so many concepts.
 const SPENT: u32 = 2;
 
 /// The closure of this peer has so many concepts.
@@ -36,24 +36,18 @@ impl Row for Alone {
 
     fn is_right(&self, alloc: Global) -> Result<bool, NoMemory> {
         let job = job(alloc, self)?;
-        let is_right = is_answered(alloc, &job, self.answer);
+        let found = answer(alloc, &job);
         drop(job);
-        is_right
+        let found = found?;
+        let is_right = found.as_slice() == self.answer;
+        drop(found);
+        Ok(is_right)
     }
 }
 
-fn is_answered(alloc: Global, job: &Job, wanted: &[u32]) -> Result<bool, NoMemory>
-    requires { IsAlone job.now }
-{
-    let verdict = verdict(alloc, job)?;
-    let found = answer(alloc, job)?;
-    let is_right = found.as_slice() == wanted && wanted.first() == Some(&verdict);
-    drop(found);
-    Ok(is_right)
-}
-
 fn job(alloc: Global, row: &Alone) -> Result<Job, NoMemory>
-    ensures { IfOk result IsAlone }
+    ensures alone { IfOk result IsAlone }
+    ensures relevant { IfOk result (λ j. j.relevant ≡ 0 ∷ []) }
 {
     let mut symbols = Symbols::new(alloc)?;
     let axioms = axioms(alloc, &mut symbols, row);
@@ -91,7 +85,8 @@ fn read(alloc: Global, symbols: &mut Symbols, text: &[u8]) -> Result<Axiom, NoMe
 
 /// The job that asks of one peer with these axioms whether the left side is below the right side.
 fn job_of(alloc: Global, axioms: Items<Axiom>, ask: Axiom, expansions: u32) -> Result<Job, NoMemory>
-    ensures { IfOk result IsAlone }
+    ensures alone { IfOk result IsAlone }
+    ensures relevant { IfOk result (λ j. j.relevant ≡ 0 ∷ []) }
 {
     let relevant = Items::from_slice(alloc, &[0])?;
     let peers = only(alloc, axioms)?;
@@ -127,29 +122,25 @@ fn only(alloc: Global, axioms: Items<Axiom>) -> Result<Items<Shared<PeerVersion>
 }
 
 fn answer(alloc: Global, job: &Job) -> Result<Vec<u32>, NoMemory>
-    requires { IsAlone job.now }
+    requires alone { IsAlone job.now }
+    requires relevant { job.now.relevant ≡ 0 ∷ [] }
 {
     match check_closures(alloc, job) {
-        Ok(()) => told(alloc, answer_alone(alloc, job)),
+        Ok(()) => told(alloc, answer_alone(alloc, job)?),
         Err(ClosureErr::Full { peer, count }) => Vec::from_slice(alloc, &[FULL, peer, count]),
         Err(ClosureErr::NoMemory) => Err(NoMemory),
     }
 }
 
-fn told(alloc: Global, answer: Answer) -> Result<Vec<u32>, NoMemory> {
+fn told(alloc: Global, answer: Answered) -> Result<Vec<u32>, NoMemory> {
     match answer {
-        Answer::Yes(lines) => {
-            drop(lines);
-            Vec::from_slice(alloc, &[YES])
-        }
-        Answer::No(world) => {
+        Answered::Yes => Vec::from_slice(alloc, &[YES]),
+        Answered::No(world) => {
             let count = counted(world.locals.len());
             drop(world);
             Vec::from_slice(alloc, &[NO, count])
         }
-        Answer::VerdictsSpent(_) => Ok(Vec::new(alloc)),
-        Answer::Memory => Err(NoMemory),
-        Answer::RunSpent(run) => {
+        Answered::Spent(run) => {
             let counts = [
                 SPENT,
                 counted(run.labels.len()),
@@ -167,40 +158,6 @@ fn counted(n: usize) -> u32 {
         return 10_000;
     }
     n as u32
-}
-
-/// Which verdict is given on the goal of the query.
-fn verdict(alloc: Global, job: &Job) -> Result<u32, NoMemory>
-    requires { IsAlone job.now }
-{
-    match check_closures(alloc, job) {
-        Ok(()) => verdict_on_root(alloc, job),
-        Err(ClosureErr::Full { .. }) => Ok(FULL),
-        Err(ClosureErr::NoMemory) => Err(NoMemory),
-    }
-}
-
-fn verdict_on_root(alloc: Global, job: &Job) -> Result<u32, NoMemory>
-    requires alone { IsAlone job.now }
-    requires few { HasFewConcepts job.now 0 }
-{
-    let goal = goal_of(alloc, job, &Key::Root)?;
-    let verdict = verdict_of(alloc, job, &goal, &[]);
-    drop(goal);
-    match verdict? {
-        Verdict::Closed(lines) => {
-            drop(lines);
-            Ok(YES)
-        }
-        Verdict::Open(model, _) => {
-            drop(model);
-            Ok(NO)
-        }
-        Verdict::Spent(run) => {
-            drop(run);
-            Ok(SPENT)
-        }
-    }
 }
 
 /// A chain of two axioms.
@@ -291,4 +248,108 @@ const ALONE: &[Alone] = &[
 #[test]
 fn queries_of_one_peer_are_answered(rt: HostRuntime) -> Result<(), Failure> {
     check(rt.alloc(), ALONE)
+}
+
+/// The into sets of the propagations from the first peer into the second one, and whether an element of that can be in G and not in
+/// H then.
+struct Met {
+    sets: &'static [&'static [u32]],
+    answer: u32,
+}
+
+impl Row for Met {
+    ghost answers = { λ row yes. ⊤ };
+
+    fn is_right(&self, alloc: Global) -> Result<bool, NoMemory> {
+        let job = second(alloc)?;
+        let found = met_by(alloc, &job, self.sets);
+        drop(job);
+        Ok(found? == self.answer)
+    }
+}
+
+/// The job that asks whether G is below H at the second peer.
+fn second(alloc: Global) -> Result<Job, NoMemory>
+    ensures peer { IfOk result (λ j. j.query.peer ≡ 1) }
+    ensures relevant { IfOk result (λ j. j.relevant ≡ 0 ∷ 1 ∷ []) }
+{
+    let relevant = Items::from_slice(alloc, &[0, 1])?;
+    Ok(Job {
+        pinned: two_peers(alloc)?,
+        query: Query {
+            peer: 1,
+            left: Concept::Name(3),
+            right: Concept::Name(4),
+        },
+        relevant,
+        budget: Budget {
+            expansions: 2,
+            verdicts: 1,
+        },
+    })
+}
+
+fn met_by(alloc: Global, job: &Job, sets: &[&'static [u32]]) -> Result<u32, NoMemory>
+    requires peer { job.now.query.peer ≡ 1 }
+    requires relevant { job.now.relevant ≡ 0 ∷ 1 ∷ [] }
+{
+    let view = view(alloc, sets)?;
+    let found = match check_closures(alloc, job) {
+        Ok(()) => found(alloc, job, &view),
+        Err(_) => Err(NoMemory),
+    };
+    drop(view);
+    found
+}
+
+fn view(alloc: Global, sets: &[&'static [u32]]) -> Result<Vec<Prop>, NoMemory> {
+    let mut view = Vec::new(alloc);
+    for set in sets {
+        view.push(Prop {
+            from: 0,
+            onto: 0,
+            into_set: Items::from_slice(alloc, set)?,
+            line: 0,
+        })?;
+    }
+    Ok(view)
+}
+
+fn found(alloc: Global, job: &Job, view: &[Prop]) -> Result<u32, NoMemory>
+    requires { HasFewConcepts job.now job.now.query.peer }
+{
+    let goal = goal_of(alloc, job, &Key::Root)?;
+    let found = search(alloc, job, &goal, view);
+    drop(goal);
+    match found? {
+        Found::Closed => Ok(YES),
+        Found::Open(model, _) => {
+            drop(model);
+            Ok(NO)
+        }
+        Found::Spent(run) => {
+            drop(run);
+            Ok(SPENT)
+        }
+    }
+}
+
+const MET: &[Met] = &[
+    Met {
+        sets: &[],
+        answer: NO,
+    },
+    Met {
+        sets: &[&[0]],
+        answer: YES,
+    },
+    Met {
+        sets: &[&[]],
+        answer: YES,
+    },
+];
+
+#[test]
+fn propagations_close_goals(rt: HostRuntime) -> Result<(), Failure> {
+    check(rt.alloc(), MET)
 }

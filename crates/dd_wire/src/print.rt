@@ -39,7 +39,6 @@ fn value_of(alloc: Global, reply: &Reply) -> Result<Value, NoMemory>
         } => run_spent(alloc, *id, *count, *peer, pin),
         Reply::Memory { id, pin } => asked(alloc, *id, pin, "memory"),
         Reply::Valid { id } => valid(alloc, *id),
-        Reply::InvalidLines { id, at } => invalid_lines(alloc, *id, *at),
         Reply::InvalidWorld { id, fault } => invalid(alloc, *id, fault),
         Reply::Unreadable { id, what } => unreadable(alloc, *id, what),
     }
@@ -100,13 +99,7 @@ fn asked(alloc: Global, id: u64, pin: &Pin, verdict: &str) -> Result<Value, NoMe
     Ok(Value::Object(reply))
 }
 
-fn run_spent(
-    alloc: Global,
-    id: u64,
-    count: u64,
-    peer: u32,
-    pin: &Pin,
-) -> Result<Value, NoMemory>
+fn run_spent(alloc: Global, id: u64, count: u64, peer: u32, pin: &Pin) -> Result<Value, NoMemory>
     ensures { IfOk result (λ value. view value ≡ spent_data id pin.now.versions count peer) }
 {
     let reply = of_ask(alloc, id, pin, "spent")?;
@@ -120,14 +113,6 @@ fn valid(alloc: Global, id: u64) -> Result<Value, NoMemory>
     ensures { IfOk result (λ value. view value ≡ reply_data (Reply.Valid id)) }
 {
     let reply = of_check(alloc, id, "valid")?;
-    Ok(Value::Object(reply))
-}
-
-fn invalid_lines(alloc: Global, id: u64, at: u32) -> Result<Value, NoMemory>
-    ensures { IfOk result (λ value. view value ≡ reply_data (Reply.InvalidLines id at)) }
-{
-    let reply = of_check(alloc, id, "invalid")?;
-    let reply = with(alloc, reply, "at", Value::from(at))?;
     Ok(Value::Object(reply))
 }
 
@@ -209,12 +194,7 @@ fn of_request(alloc: Global, id: u64) -> Result<Map<String, Value>, NoMemory>
 }
 
 /// The members of a reply to an ask, with this verdict.
-fn of_ask(
-    alloc: Global,
-    id: u64,
-    pin: &Pin,
-    verdict: &str,
-) -> Result<Map<String, Value>, NoMemory>
+fn of_ask(alloc: Global, id: u64, pin: &Pin, verdict: &str) -> Result<Map<String, Value>, NoMemory>
     ensures { IfOk result (λ new. members_view new.entries ≡ ask_members id pin.now.versions verdict.now) }
 {
     let reply = of_request(alloc, id)?;

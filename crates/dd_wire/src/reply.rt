@@ -26,18 +26,46 @@ pub enum Unread {
 /// A reply. `id` is the number of its request, from 1 on.
 #[derive(Drop)]
 pub enum Reply {
-    Refused { id: u64, code: u8, n: Option<u64> },
-    Peers { id: u64, count: u32 },
-    Put { id: u64, put: Text, version: u32 },
-    Decided { id: u64, yes: bool, pin: Pin },
+    Refused {
+        id: u64,
+        code: u8,
+        n: Option<u64>,
+    },
+    Peers {
+        id: u64,
+        count: u32,
+    },
+    Put {
+        id: u64,
+        put: Text,
+        version: u32,
+    },
+    Decided {
+        id: u64,
+        yes: bool,
+        pin: Pin,
+    },
     /// The run at this peer put as many labels as it may, which is `count`, and would have put another.
-    RunSpent { id: u64, count: u64, peer: u32, pin: Pin },
+    RunSpent {
+        id: u64,
+        count: u64,
+        peer: u32,
+        pin: Pin,
+    },
     /// There was no memory for an answer to an ask.
-    Memory { id: u64, pin: Pin },
-    Valid { id: u64 },
-    /// The lines of a check derive nothing. `at` is the first that is not right, from 0, and the number of the lines where
-    /// all are right and the last does not say what is asked.
-    InvalidLines { id: u64, at: u32 },
-    InvalidWorld { id: u64, fault: BadWorld },
-    Unreadable { id: u64, what: Unread },
+    Memory {
+        id: u64,
+        pin: Pin,
+    },
+    Valid {
+        id: u64,
+    },
+    InvalidWorld {
+        id: u64,
+        fault: BadWorld,
+    },
+    Unreadable {
+        id: u64,
+        what: Unread,
+    },
 }

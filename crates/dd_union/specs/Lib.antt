@@ -1,4 +1,0 @@
-pub mod Union
-pub mod Laws
-pub mod Pieces
-pub mod Evidence

@@ -1,5 +1,0 @@
-pub mod Lists
-pub mod Extending
-pub mod Taking
-pub mod Posting
-pub mod Fitting
