@@ -7,12 +7,16 @@ use Rattle.std.proofs.lemmas.Iterator.Adapters.{position_from-zero}
 use Rattle.dd_json.specs.Members.{largest_index}
 use Rattle.dd_text.specs.Names.{names_a_thing}
 use Rattle.dd_text.specs.Reads.{told}
+use Rattle.dd_cert.specs.declared.form.LineForm.{LineForm}
 use Rattle.dd_cert.specs.declared.form.LocalForm.{LocalForm}
+use Rattle.dd_cert.specs.declared.form.WhyForm.{WhyForm}
+use Rattle.dd_cert.specs.declared.form.WhyForm.TheVariants as why
 use Rattle.dd_cert.specs.declared.form.WorldForm.{WorldForm}
 use Rattle.dd_cert.specs.declared.read.CertErr.{CertErr}
 use Rattle.dd_cert.specs.declared.read.CertErr.TheVariants as err
 use Rattle.dd_cert.specs.Certificates.{first_above, numbers_of_link, numbers_of_role, numbers_of_local, numbers_of, names_of_local, roles_of_local, texts_of}
-use Rattle.dd_cert.specs.Steps.{◌>>=◌, walk, past_number, past_link, past_element, past_ends, past_local, past_numbers, past_text, past_name, past_role, past_symbols, past_texts, fits, link_fits, name_fits, role_fits, local_fits, world_fits, has_name, has_role, has_names}
+use Rattle.dd_cert.specs.Derivations.{numbers_of_line, numbers_of_why}
+use Rattle.dd_cert.specs.Steps.{◌>>=◌, walk, line_fits, past_bridge, past_line, past_number, past_link, past_element, past_ends, past_local, past_numbers, past_text, past_name, past_role, past_symbols, past_texts, fits, link_fits, name_fits, role_fits, local_fits, world_fits, has_name, has_role, has_names}
 
 -- ---- one part after another
 
@@ -79,6 +83,30 @@ past_numbers-is w =
     (λ next. walk-flat past_number past_local numbers_of_local past_local-is next w.locals)
     ∙ sym (walk-append past_number 0 links locals)
 
+-- ---- the numbers of a derivation
+
+pub past_bridge-is : (at from onto : ℕ) (into_set : List ℕ) (cite : ℕ) (each : List ℕ)
+    → past_bridge at from onto into_set cite each ≡ walk past_number at (cite ∷ (each ++ from ∷ (into_set ++ onto ∷ [])))
+past_bridge-is at from onto into_set cite each =
+    let behind : ℕ → Result ℕ CertErr = (λ d. walk past_number d (into_set ++ onto ∷ [])) in
+    go_on (past_number at cite)
+    (λ a. walk past_number a each >>= (λ b. past_number b from >>= (λ d. walk past_number d into_set >>= (λ e. past_number e onto))))
+    (λ a. walk past_number a (each ++ from ∷ (into_set ++ onto ∷ [])))
+    (λ a. go_on (walk past_number a each) (λ b. past_number b from >>= (λ d. walk past_number d into_set >>= (λ e. past_number e onto))) (λ b. past_number b from >>= behind)
+    (λ b. go_on (past_number b from) (λ d. walk past_number d into_set >>= (λ e. past_number e onto)) behind
+    (λ d. go_on (walk past_number d into_set) (λ e. past_number e onto) (λ e. walk past_number e (onto ∷ [])) (λ e. sym (one past_number e onto))
+    ∙ sym (walk-append past_number d into_set (onto ∷ []))))
+    ∙ sym (walk-append past_number a each (from ∷ (into_set ++ onto ∷ []))))
+
+pub bridge-passes : (r : Result ℕ CertErr) (at from onto : ℕ) (into_set into' : List ℕ) (cite : ℕ) (each each' : List ℕ) (w : WhyForm) → w ≡ why.Bridge from onto into' cite each'
+    → into_set ≡ into' → each ≡ each' → r ≡ past_bridge at from onto into_set cite each → r ≡ walk past_number at (numbers_of_why w)
+bridge-passes r at from onto into_set into' cite each each' w is i e passed =
+    passed ∙ ap (λ l. past_bridge at from onto l cite each) i ∙ ap (past_bridge at from onto into' cite) e ∙ past_bridge-is at from onto into' cite each'
+    ∙ ap (λ v. walk past_number at (numbers_of_why v)) (sym is)
+
+past_lines-is : (lines : List LineForm) → walk past_line 0 lines ≡ walk past_number 0 (flat_map numbers_of_line lines)
+past_lines-is lines = walk-flat past_number past_line numbers_of_line (λ at l. refl) 0 lines
+
 -- ---- the texts of a world
 
 past_symbols-is : (at : ℕ) (l : LocalForm) → past_symbols at l ≡ walk past_text at (names_of_local l ++ roles_of_local l)
@@ -108,6 +136,9 @@ stops-number k (n ∷ ns) =
       | true ↦ (k, n, refl, refl)
       | false ↦ subst (λ at. StopsAtNumber (first_above (k + 1) ns) (walk past_number at ns)) (told-next k) (stops-number (k + 1) ns)
     ]
+
+pub lines-stop : (lines : List LineForm) → StopsAtNumber (first_above 0 (flat_map numbers_of_line lines)) (walk past_line 0 lines)
+lines-stop lines = subst (StopsAtNumber (first_above 0 (flat_map numbers_of_line lines))) (sym (past_lines-is lines)) (stops-number 0 (flat_map numbers_of_line lines))
 
 pub numbers-stop : (w : WorldForm) → StopsAtNumber (first_above 0 (numbers_of w)) (past_numbers w)
 numbers-stop w = subst (StopsAtNumber (first_above 0 (numbers_of w))) (sym (past_numbers-is w)) (stops-number 0 (numbers_of w))
@@ -195,6 +226,13 @@ numbers-passed w n h =
     and_from (list_all link_fits w.links) (list_all local_fits w.locals)
     (passed-all past_link link_fits link-passed 0 w.links a.between a.first)
     (passed-all past_local local_fits local-passed a.between w.locals n a.second)
+
+line-passed : (at : ℕ) (l : LineForm) (n : ℕ) → Ok n ≡ past_line at l → line_fits l ≡ true
+line-passed at l n h = passed-all past_number fits number-passed at (numbers_of_line l) n h
+
+-- no number of the derivation is too large
+pub lines-passed : (lines : List LineForm) (n : ℕ) → Ok n ≡ walk past_line 0 lines → list_all line_fits lines ≡ true
+lines-passed lines n h = passed-all past_line line_fits line-passed 0 lines n h
 
 symbols-passed : (at : ℕ) (l : LocalForm) (n : ℕ) → Ok n ≡ past_symbols at l → has_names l ≡ true
 symbols-passed at l n h =

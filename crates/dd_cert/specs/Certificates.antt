@@ -1,4 +1,4 @@
--- Which values are certificates, what one is evidence of, and where a value stops to be one: by kinds, of which `no` is one.
+-- Which values are certificates, what one is evidence of, and where a value stops to be one: by kinds.
 use Rattle.std.specs.Prelude.{◌≡◌, ℕ, ◌+◌, not, nat_le, nat_lt, List, [], ◌∷◌, ◌++◌, map, position, if◌then◌else◌, Option, None, Some, Result, Ok, Err, codes, ⊤}
 use Rattle.std.specs.List.{flat_map}
 use Rattle.serde_json.specs.Data.{Data}
@@ -14,6 +14,7 @@ use Rattle.dd_cert.specs.declared.form.CertForm.{CertForm}
 use Rattle.dd_cert.specs.declared.form.CertForm.TheVariants as form
 use Rattle.dd_cert.specs.declared.form.Kind.{Kind}
 use Rattle.dd_cert.specs.declared.form.Kind.TheVariants as kind
+use Rattle.dd_cert.specs.declared.form.LineForm.{LineForm}
 use Rattle.dd_cert.specs.declared.form.LocalForm.{LocalForm}
 use Rattle.dd_cert.specs.declared.form.WorldForm.{WorldForm}
 use Rattle.dd_cert.specs.declared.read.Cert.{Cert}
@@ -21,9 +22,11 @@ use Rattle.dd_cert.specs.declared.read.Cert.TheVariants as cert
 use Rattle.dd_cert.specs.declared.read.CertErr.{CertErr}
 use Rattle.dd_cert.specs.declared.read.CertErr.TheVariants as err
 use Rattle.dd_cert.specs.Forms.{format_at, kind_at, links_at, locals_at}
+use Rattle.dd_cert.specs.LineForms.{lines_at}
+use Rattle.dd_cert.specs.Derivations.{IsParse, Parse, line_by, numbers_of_line, parsed, stopped, with_lines}
 
--- where a value stops to be a certificate: a member with another form, a number that is too large, a text that is no name,
--- or one symbol too many
+-- where a value stops to be a certificate: a member with another form, a number that is too large, a text that is not what
+-- it is to be, or one symbol too many
 pub data Unreadable : Type 0 where
   field : List ℕ → Unreadable
   place : ℕ → ℕ → Unreadable
@@ -49,6 +52,7 @@ world_form d = do
 
 -- the certificate as it is written, by its kind
 abbrev pub form_by : Kind → Data → Tried CertForm
+form_by kind.Yes d = member (codes "lines") (lines_at d) >>= (λ lines. Ok (form.Yes lines))
 form_by kind.No d = world_form d >>= (λ w. Ok (form.No w))
 
 unfoldable pub cert_form : Data → Tried CertForm
@@ -123,13 +127,30 @@ certified_world s w = none_above (first_above 0 (numbers_of w))
     >>= (λ named. unless full (nat_le (symbol_count (with_world s w)) most_symbols)
     >>= (λ room. Ok (record { cert = cert.No (world_by (with_world s w) w); symbols = with_world s w }))))
 
+-- the lines that a derivation is, or where it stops to be one, once its numbers were tested: first its texts, and then the room
+-- for symbols
+abbrev pub certified_lines : SymbolLists → Parse → Tried Certified
+certified_lines s (stopped n) = Err (text n)
+certified_lines s (parsed trees) = unless full (nat_le (symbol_count (with_lines s trees)) most_symbols)
+    >>= (λ room. Ok (record { cert = cert.Yes (map (line_by (with_lines s trees)) trees); symbols = with_lines s trees }))
+
+-- the same with its numbers, by the first that is too large, which comes before all texts
+abbrev pub IsDerivationFrom : SymbolLists → List LineForm → Option (ℕ × ℕ) → Tried Certified → Type 0
+IsDerivationFrom s lines (Some at) found = found ≡ Err (place at.0 at.1)
+IsDerivationFrom s lines None found = (reading : Parse) × IsParse lines reading × (found ≡ certified_lines s reading)
+
 -- what a form is evidence of, by its kind
-abbrev pub certified : SymbolLists → CertForm → Tried Certified
-certified s (form.No w) = certified_world s w
+abbrev pub IsEvidence : SymbolLists → CertForm → Tried Certified → Type 0
+IsEvidence s (form.Yes lines) found = IsDerivationFrom s lines (first_above 0 (flat_map numbers_of_line lines)) found
+IsEvidence s (form.No w) found = found ≡ certified_world s w
+
+abbrev pub IsEvidenceOf : SymbolLists → Tried CertForm → Tried Certified → Type 0
+IsEvidenceOf s (Err e) found = found ≡ Err e
+IsEvidenceOf s (Ok f) found = IsEvidence s f found
 
 -- what a value is evidence of, or where it stops to be a certificate: its form comes before all else
-abbrev pub cert_in : SymbolLists → Data → Tried Certified
-cert_in s d = cert_form d >>= (λ f. certified s f)
+abbrev pub IsCertIn : SymbolLists → Data → Tried Certified → Type 0
+IsCertIn s d found = IsEvidenceOf s (cert_form d) found
 
 -- ---- what is answered
 
@@ -143,5 +164,5 @@ Tells err.NoMemory found = Unit {0}
 
 -- the evidence that the value is, and its symbols are added; or why it is none, and the symbols stay
 abbrev pub ReadsCert : (old new : SymbolLists) → Data → Result Cert CertErr → Type 0
-ReadsCert old new d (Ok c) = cert_in old d ≡ Ok (record { cert = c; symbols = new })
-ReadsCert old new d (Err e) = (new ≡ old) × Tells e (cert_in old d)
+ReadsCert old new d (Ok c) = IsCertIn old d (Ok (record { cert = c; symbols = new }))
+ReadsCert old new d (Err e) = (new ≡ old) × (found : Tried Certified) × IsCertIn old d found × Tells e found

@@ -1,4 +1,6 @@
--- The form of certificates by their kinds. One of kind `no` is a world as it is written,
+-- The form of certificates by their kinds. One of kind `yes` is a derivation as it is written,
+-- {"format":1,"kind":"yes","lines":[{"label":["A",..],"peer":P,"why":{"rule":"..",..}},..]}
+-- One of kind `no` is a world as it is written,
 -- {"format":1,"kind":"no","links":[[I,J,A,B],..],"locals":[{"names":[["A",X],..],"roles":[["r",X,Y],..],"size":N},..]}
 use Rattle.std.specs.Prelude.{ℕ, ◌+◌, ◌==◌, List, [], ◌∷◌, if◌then◌else◌, Option, None, Some, option_and_then, option_map, codes, ⊤}
 use Rattle.std.specs.Str.{bytes_eq}
@@ -55,10 +57,11 @@ format_at d = option_and_then one (option_and_then number_of (get (codes "format
 
 -- the kind with this name
 abbrev pub kind_named : List ℕ → Option Kind
-kind_named name = if bytes_eq name (codes "no") then Some kind.No else None
+kind_named name = if bytes_eq name (codes "yes") then Some kind.Yes else if bytes_eq name (codes "no") then Some kind.No else None
 
 -- how many members a certificate of this kind has, of those that it may have
 abbrev pub members_of : Kind → Data → ℕ
+members_of kind.Yes d = 2 + presence (codes "lines") d
 members_of kind.No d = 2 + presence (codes "links") d + presence (codes "locals") d
 
 -- the kind of a value that has no member that a certificate of its kind does not have

@@ -1,6 +1,6 @@
 -- For private clauses: what the passes of reading a certificate answer: the form, the numbers, the texts and the room for symbols.
-use Rattle.std.specs.Prelude.{◌≡◌, ℕ, ◌+◌, nat_lt, nat_le, Bool, ◌&&◌, if◌then◌else◌, List, [], ◌∷◌, Option, option_and_then, Result, Ok, Err, codes}
-use Rattle.std.specs.List.{list_all}
+use Rattle.std.specs.Prelude.{◌≡◌, ℕ, ◌+◌, ◌<◌, length, map, nat_lt, nat_le, Bool, ◌&&◌, if◌then◌else◌, List, [], ◌∷◌, Option, option_and_then, Result, Ok, Err, codes}
+use Rattle.std.specs.List.{fold, list_all}
 use Rattle.serde_json.specs.Data.{Data}
 use Rattle.serde_json.specs.Find.{get}
 pub use Rattle.dd_json.specs.InOrder.{◌>>=◌}
@@ -8,9 +8,13 @@ use Rattle.dd_json.specs.Members.{largest_index}
 use Rattle.dd_json.specs.Members as json
 use Rattle.dd_json.specs.declared.shape.ShapeErr.{ShapeErr}
 use Rattle.dd_json.specs.declared.shape.ShapeErr.TheVariants as shape
+use Rattle.dd_concept.specs.declared.concept.Concept.{Concept}
 use Rattle.dd_text.specs.Names.{names_a_thing}
 use Rattle.dd_text.specs.Reads.{told}
-use Rattle.dd_text.specs.Symbols.{SymbolLists, number_of, with_text}
+use Rattle.dd_text.specs.Symbols.{Grows, SymbolLists, most_symbols, number_of, symbol_count, with_text}
+use Rattle.dd_text.specs.declared.read.TextErr.{TextErr}
+use Rattle.dd_text.specs.declared.read.TextErr.TheVariants as texts
+use Rattle.dd_task.specs.declared.line.Line.{Line}
 use Rattle.dd_cert.specs.declared.read.CertErr.{CertErr}
 use Rattle.dd_cert.specs.declared.read.CertErr.TheVariants as err
 use Rattle.dd_cert.specs.declared.add.AddErr.{AddErr}
@@ -19,7 +23,13 @@ use Rattle.dd_cert.specs.declared.form.LocalForm.{LocalForm}
 use Rattle.dd_cert.specs.declared.form.WorldForm.{WorldForm}
 use Rattle.dd_cert.specs.declared.read.Cert.TheVariants as cert
 use Rattle.dd_world.specs.declared.world.World.{World}
-use Rattle.dd_cert.specs.Certificates.{Tried, Tells, field, certified_world}
+use Rattle.dd_cert.specs.declared.form.CertForm.{CertForm}
+use Rattle.dd_cert.specs.declared.form.CertForm.TheVariants as kinds
+use Rattle.dd_cert.specs.declared.read.Cert.{Cert}
+use Rattle.dd_cert.specs.declared.form.LineForm.{LineForm}
+use Rattle.dd_cert.specs.declared.form.WhyForm.{WhyForm}
+use Rattle.dd_cert.specs.Certificates.{Certified, IsEvidence, Tried, Tells, field, certified_world}
+use Rattle.dd_cert.specs.Derivations.{AllReadable, Each, IsFirstUnreadable, Piece, numbers_of_line, numbers_of_why}
 
 -- the number of elements of a local interpretation
 abbrev pub size_at : Data → Option ℕ
@@ -146,3 +156,94 @@ role_by s r = (number_of s.roles r.0, r.1, r.2)
 abbrev pub refusal_of : AddErr → CertErr
 refusal_of added.SymbolsFull = err.SymbolsFull
 refusal_of added.NoMemory = err.NoMemory
+
+-- ---- derivations
+
+-- what is made of a form by the passes after its shape
+abbrev pub ReadsForm : (old new : SymbolLists) → CertForm → Result Cert CertErr → Type 0
+ReadsForm old new f (Ok c) = IsEvidence old f (Ok (record { cert = c; symbols = new }))
+ReadsForm old new f (Err e) = (new ≡ old) × (found : Tried Certified) × IsEvidence old f found × Tells e found
+
+-- what is made of the lines of a derivation by the passes after their shape
+abbrev pub CertifiesLines : (old new : SymbolLists) → List LineForm → Result (List Line) CertErr → Type 0
+CertifiesLines old new forms (Ok lines) = IsEvidence old (kinds.Yes forms) (Ok (record { cert = cert.Yes lines; symbols = new }))
+CertifiesLines old new forms (Err e) = (new ≡ old) × (found : Tried Certified) × IsEvidence old (kinds.Yes forms) found × Tells e found
+
+-- the numbers of a line
+abbrev pub past_line : ℕ → LineForm → Result ℕ CertErr
+past_line at l = walk past_number at (numbers_of_line l)
+
+-- those of a bridge: the cited line, those cited for each into rule, the other peer, the into rules and the onto rule
+abbrev pub past_bridge : ℕ → ℕ → ℕ → List ℕ → ℕ → List ℕ → Result ℕ CertErr
+past_bridge at from onto into_set cite each = past_number at cite >>= (λ a. walk past_number a each >>= (λ b. past_number b from
+    >>= (λ d. walk past_number d into_set >>= (λ e. past_number e onto))))
+
+abbrev pub why_fits : WhyForm → Bool
+why_fits w = list_all fits (numbers_of_why w)
+
+abbrev pub line_fits : LineForm → Bool
+line_fits l = list_all fits (numbers_of_line l)
+
+-- ---- the texts of a derivation
+
+-- no names and no roles
+abbrev pub no_symbols : SymbolLists
+no_symbols = record { names = []; roles = [] }
+
+-- the texts were passed from this place on: each is what it is to be, or the first that is not is told by its place
+abbrev pub Passes : ℕ → List Piece → Result ℕ CertErr → Type 0
+Passes at ps (Ok next) = AllReadable ps × (next ≡ told (at + length ps))
+Passes at ps (Err (err.Text k)) = (n : ℕ) × IsFirstUnreadable ps n × (k ≡ told (at + n))
+Passes at ps (Err err.NoMemory) = Unit {0}
+Passes at ps (Err e) = ⊥
+
+-- how it is told that a text could not be read
+abbrev pub stop_at : ℕ → TextErr → CertErr
+stop_at at (texts.Bad n) = err.Text at
+stop_at at (texts.TooLarge n) = err.Text at
+stop_at at (texts.TooDeep n) = err.Text at
+stop_at at texts.SymbolsFull = err.Text at
+stop_at at texts.NoMemory = err.NoMemory
+
+abbrev pub passed_at : ℕ → Result Concept TextErr → Result ℕ CertErr
+passed_at at (Ok c) = Ok (told (at + 1))
+passed_at at (Err e) = Err (stop_at at e)
+
+-- ---- what is built of forms by way of trees, which add their symbols one after another
+
+module _ {X T Y : Type 0} (Spell : X → T → Type 0) (step : SymbolLists → T → SymbolLists) where
+  -- one form is that of a tree, and what was built is what the tree says, by these symbols and by all later ones
+  pub record IsBuilt (by : SymbolLists → T → Y) (old : SymbolLists) (x : X) (new : SymbolLists) (y : Y) : Type 0 where
+    pub tree : T
+    pub spelt : Spell x tree
+    pub symbols : new ≡ step old tree
+    pub later : (s : SymbolLists) → Grows new s → y ≡ by s tree
+
+  -- the same of several forms
+  pub record AreBuilt (by : SymbolLists → T → Y) (old : SymbolLists) (xs : List X) (new : SymbolLists) (ys : List Y) : Type 0 where
+    pub trees : List T
+    pub spelt : Each Spell xs trees
+    pub symbols : new ≡ fold step old trees
+    pub later : (s : SymbolLists) → Grows new s → ys ≡ map (by s) trees
+
+module _ {X T : Type 0} (Spell : X → T → Type 0) (step : SymbolLists → T → SymbolLists) where
+  -- there is no room for the symbols of the form, or of the forms
+  pub record IsFull (old : SymbolLists) (x : X) : Type 0 where
+    pub tree : T
+    pub spelt : Spell x tree
+    pub full : most_symbols < symbol_count (step old tree)
+
+  pub record AreFull (old : SymbolLists) (xs : List X) : Type 0 where
+    pub trees : List T
+    pub spelt : Each Spell xs trees
+    pub full : most_symbols < symbol_count (fold step old trees)
+
+-- a text that is what it is to be is refused for want of room or of memory alone
+abbrev pub HasRoomErr : TextErr → Type 0
+HasRoomErr texts.SymbolsFull = Unit {0}
+HasRoomErr texts.NoMemory = Unit {0}
+HasRoomErr e = ⊥
+
+abbrev pub unread_of : TextErr → AddErr
+unread_of texts.SymbolsFull = added.SymbolsFull
+unread_of e = added.NoMemory

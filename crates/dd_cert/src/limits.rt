@@ -18,7 +18,8 @@ pub fn pass_numbers(w: &WorldForm) -> Result<u32, CertErr>
     pass_locals(place, w.locals.as_slice())
 }
 
-fn pass_number(place: u32, n: u64) -> Result<u32, CertErr>
+/// Passes one number.
+pub fn pass_number(place: u32, n: u64) -> Result<u32, CertErr>
     ensures { result ≡ past_number place n }
 {
     if n > LARGEST_INDEX {

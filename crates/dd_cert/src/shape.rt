@@ -4,8 +4,10 @@ ghost use Rattle.dd_json.specs.Gives.{Gives};
 ghost use Rattle.dd_cert.specs.Forms.{each_of, link_in, name_in, role_in, link_of, name_of, role_of, local_of, one, format_at, kind_named, members_of, kind_at, links_at, locals_at};
 ghost use Rattle.dd_cert.specs.Certificates.{cert_form, form_by, world_form};
 ghost use Rattle.dd_cert.specs.Steps.{Finds, IsTold, size_at};
+ghost use Rattle.dd_cert.specs.declared.form.Kind.TheVariants as kind;
 
 use crate::form::{CertForm, Kind, LocalForm, WorldForm};
+use crate::line_shape::lines_in;
 use crate::read::CertErr;
 use dd_concept::Items;
 use dd_json::{ShapeErr, Text, count_of, list, number_in, text, text_in, wants_members};
@@ -30,7 +32,18 @@ fn form_by(alloc: Global, kind: Kind, value: &Value) -> Result<CertForm, CertErr
     ensures { Finds result (form_by kind (view value.now)) }
 {
     match kind {
+        Kind::Yes => derivation(alloc, value),
         Kind::No => Ok(CertForm::No(world(alloc, value)?)),
+    }
+}
+
+/// The derivation as it is written in a certificate of kind `yes`.
+fn derivation(alloc: Global, value: &Value) -> Result<CertForm, CertErr>
+    ensures { Finds result (form_by kind.Yes (view value.now)) }
+{
+    match lines_in(alloc, value) {
+        Ok(lines) => Ok(CertForm::Yes(lines)),
+        Err(e) => Err(at_field(e, "lines")),
     }
 }
 
@@ -87,7 +100,9 @@ fn kind(alloc: Global, value: &Value) -> Result<Kind, ShapeErr>
 fn kind_named(name: &[u8]) -> Result<Kind, ShapeErr>
     ensures { Gives result (kind_named name.now) }
 {
-    if name == b"no".as_slice() {
+    if name == b"yes".as_slice() {
+        Ok(Kind::Yes)
+    } else if name == b"no".as_slice() {
         Ok(Kind::No)
     } else {
         Err(ShapeErr::Shape)
@@ -98,6 +113,7 @@ fn members_of(kind: Kind, value: &Value) -> usize
     ensures { result ≡ members_of kind (view value.now) }
 {
     match kind {
+        Kind::Yes => 2 + count_of(value, "lines"),
         Kind::No => 2 + count_of(value, "links") + count_of(value, "locals"),
     }
 }

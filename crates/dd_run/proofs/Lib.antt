@@ -3,8 +3,12 @@ pub mod Propagations
 pub mod Numbering
 pub mod Goals
 pub mod Opened
+pub mod LeastClosures
 pub mod Closed
 pub mod SpentRuns
-pub mod Lonely
 pub mod Taking
 pub mod Runs
+pub mod Parted
+pub mod Givens
+pub mod Lonely
+pub mod KeyGoals

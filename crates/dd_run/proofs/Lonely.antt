@@ -1,43 +1,40 @@
--- What is found of the root's goal answers the query of a peer that is alone.
-use Rattle.std.proofs.Common.{◌≡◌, ◌∙◌, ◌<◌, ℕ, zero, suc, true, false, List, [], ◌∷◌, length, All, ap, sym, subst, slice_get, Some, inl, inr}
+-- A verdict on the root's goal answers the query of a peer that is alone.
+use Rattle.std.proofs.Common.{◌≡◌, ◌∙◌, ◌<◌, ℕ, zero, suc, true, List, [], ◌∷◌, length, All, ap, sym, subst, slice_get, Some}
 use Rattle.std.specs.Option.{option_map_or}
-use Rattle.std.proofs.lemmas.Bool.{false≢true, cases_Bool, not-true, not_from_false}
+use Rattle.std.proofs.lemmas.Bool.{false≢true, not-true}
 use Rattle.std.proofs.lemmas.List.Elements.{All-nil, All-cons}
 use Rattle.std.proofs.lemmas.Option.{same_Some}
 use Rattle.dd_concept.specs.declared.concept.Axiom.{Axiom}
 use Rattle.dd_concept.specs.Normal.{nnf_of, nnf_not_of}
-use Rattle.dd_concept.proofs.Sets.{has-head, has-tail, has-cases}
+use Rattle.dd_concept.proofs.Sets.{has-head, has-tail}
 use Rattle.dd_interp.specs.declared.interp.Interp.{Interp}
-use Rattle.dd_interp.specs.Labels.{HasLabel}
 use Rattle.dd_interp.specs.Meaning.{meaning}
 use Rattle.dd_interp.specs.Satisfies.{IsShaped, SatisfiesAxiom, SatisfiesAxioms}
 use Rattle.dd_interp.proofs.NormalForms.{meaning-nnf_of, meaning-nnf_not_of}
 use Rattle.dd_peer.specs.declared.version.PeerVersion.{PeerVersion}
-use Rattle.dd_peer.specs.declared.version.Query.{Query}
 use Rattle.dd_peer.specs.declared.version.Rule.{Rule}
 use Rattle.dd_task.specs.declared.job.Job.{Job}
 use Rattle.dd_task.specs.declared.job.Key.TheVariants.{Root}
 use Rattle.dd_task.specs.Goals.{goal_for, root_label}
-use Rattle.dd_task.specs.Rules.{axioms_of}
-use Rattle.dd_task.specs.Targets.{SatisfiesProp}
-use Rattle.dd_task.specs.Verdicts.{IsRightOpen}
+use Rattle.dd_task.specs.Rules.{all_onto, axioms_of}
+use Rattle.dd_task.specs.Verdicts.{IsRightClosed, IsRightOpen}
 use Rattle.dd_task.proofs.Places.{All-at, All-from}
 use Rattle.dd_world.specs.declared.world.World.{World}
-use Rattle.dd_world.specs.Elements.{HoldsAt, holds_at}
-use Rattle.dd_world.specs.World.{IsLink, SatisfiesAt, SatisfiesInto, SatisfiesOnto, SatisfiesVersion, SatisfiesWorld, IsWorld, Follows, IsCounterexample, IsCounter}
-use Rattle.dd_world.proofs.Decided.{size_is, holds_is, local_of}
-use Rattle.dd_run.specs.Fit.{IsAlone}
-use Rattle.dd_run.specs.Found.{IsNeverMet}
-
--- an element that has the left concept and lacks the right one has the root's label
-has-root : (q : Query) (m : Interp) (x : ℕ) → meaning m q.left x ≡ true → meaning m q.right x ≡ false → HasLabel m x (root_label q)
-has-root q m x left right c h = elim (has-cases c (nnf_of q.left) (nnf_not_of q.right ∷ []) h) [
-  | inl e ↦ subst (λ d. meaning m d x ≡ true) e (meaning-nnf_of m q.left x ∙ left)
-  | inr t ↦ elim (has-cases c (nnf_not_of q.right) [] t) [
-    | inl e ↦ subst (λ d. meaning m d x ≡ true) e (meaning-nnf_not_of m q.right x ∙ not_from_false (meaning m q.right x) right)
-    | inr none ↦ absurd (false≢true none)
-  ]
-]
+use Rattle.dd_world.specs.Elements.{HoldsAt}
+use Rattle.dd_world.specs.World.{IsLink, SatisfiesAt, SatisfiesInto, SatisfiesOnto, SatisfiesVersion, IsWorld, IsCounterexample, IsCounter}
+use Rattle.dd_world.proofs.Decided.{size_is, holds_is}
+use Rattle.dd_close.specs.Fits.{HasSmallTarget, IsPropInto}
+use Rattle.dd_task.specs.declared.line.Line.{Line}
+use Rattle.dd_concept.proofs.Sets.{within-has}
+use Rattle.dd_concept.specs.Same.{is_within}
+use Rattle.std.proofs.lemmas.Option.{slice_get-get_or}
+use Rattle.std.proofs.Common.{get_or, refl, arith, Contains}
+use Rattle.dd_run.specs.Answers.{IsRightNo, IsRightYes}
+use Rattle.dd_run.specs.Fit.{IsAlone, IsFitView, closure_for}
+use Rattle.dd_run.specs.Given.{AllComeFromGiven, IsWrittenInGiven}
+use Rattle.dd_run.proofs.Givens.{closure-comes, name-given, role-given}
+use Rattle.dd_run.proofs.Goals.{root-within}
+use Rattle.dd_run.proofs.LeastClosures.{closure-for-is}
 
 -- what an into rule asks of a link
 abbrev KeepsInto : World → ℕ → Rule → ℕ × ℕ × ℕ × ℕ → Type 0
@@ -50,37 +47,31 @@ module _ (job : Job) (alone : IsAlone job) where
   axioms-are : axioms_of job.pinned job.query.peer ≡ alone.version.axioms
   axioms-are = ap (λ o. option_map_or (λ (v : PeerVersion). v.axioms) o []) asked-version
 
+  -- without propagations the view is fit
+  pub alone-fits : IsFitView job.pinned job.query.peer []
+  alone-fits = record {
+    declared = omega (arith, alone.asked, ap length alone.only);
+    each = All-nil (IsPropInto job.pinned job.query.peer);
+    targets = subst (All HasSmallTarget) (sym no-onto) (All-nil HasSmallTarget);
+  }
+    where
+      no-onto : all_onto job.pinned job.query.peer ≡ []
+      no-onto = ap (λ o. option_map_or (λ (v : PeerVersion). v.onto) o []) asked-version ∙ alone.no_onto
+
   -- ---- yes
 
-  module _ (w : World) (world : IsWorld job.pinned w) (satisfies : SatisfiesWorld job.pinned w) (i : Interp) (at : slice_get w.locals job.query.peer ≡ Some i) where
-    local-axiom : (a : Axiom) → SatisfiesAt w job.query.peer a → SatisfiesAxiom i a
-    local-axiom a given x lt left =
-        sym (holds_is w job.query.peer i at x a.right)
-        ∙ given x (subst (λ n. x < n) (sym (size_is w job.query.peer i at)) lt) (holds_is w job.query.peer i at x a.left ∙ left)
+  is-relevant : Contains job.relevant job.query.peer
+  is-relevant = subst (λ i. Contains job.relevant i) (sym alone.asked) (subst (λ l. Contains l 0) (sym alone.relevant) (zero, omega arith, refl))
 
-    local-axioms : SatisfiesAxioms i (axioms_of job.pinned job.query.peer)
-    local-axioms = subst (SatisfiesAxioms i) (sym axioms-are)
-        (All-from Axiom (SatisfiesAxiom i) alone.version.axioms (λ k a e.
-        local-axiom a (All-at Axiom (SatisfiesAt w job.query.peer) alone.version.axioms k a (satisfies job.query.peer alone.version asked-version).axioms e)))
+  -- the lines are in the concepts of the closure, which come from what is given
+  comes-line : (lines : List Line) → IsRightClosed job (goal_for job Root) [] lines → All (λ (line : Line). AllComeFromGiven job line.label) lines
+  comes-line lines closed = All-from Line (λ line. AllComeFromGiven job line.label) lines (λ k line e c h.
+      let inside = within-has line.label closed.closure c (All-at Line (λ l. is_within l.label closed.closure ≡ true) lines k line closed.by.inside e) h in
+      closure-comes job job.query.peer is-relevant c
+      (within-has closed.closure (closure_for job job.query.peer) c (closed.is_closure.least (closure_for job job.query.peer) (closure-for-is job job.query.peer).is_closed) inside))
 
-    local-shaped : IsShaped i
-    local-shaped = All-at Interp IsShaped w.locals job.query.peer i world.shaped at
-
-  pub follows : IsNeverMet job (goal_for job Root) [] → Follows job.pinned job.query
-  follows never w world satisfies x element left =
-      let found = local_of w job.query.peer x element in
-      let holds = holds_is w job.query.peer found.0 found.1 x in
-      elim (cases_Bool (holds_at w job.query.peer x job.query.right)) [
-        | inl t ↦ t
-        | inr f ↦ absurd (never found.0
-            (record {
-              shaped = local-shaped w world satisfies found.0 found.1;
-              axioms = local-axioms w world satisfies found.0 found.1;
-              props = All-nil (SatisfiesProp job.pinned job.query.peer found.0);
-            })
-            x (subst (λ n. x < n) (size_is w job.query.peer found.0 found.1) element)
-            (has-root job.query found.0 x (sym (holds job.query.left) ∙ left) (sym (holds job.query.right) ∙ f)))
-      ]
+  pub derives : (lines : List Line) → IsRightClosed job (goal_for job Root) [] lines → IsRightYes job lines
+  derives lines closed = record { derives = record { right = closed.by.right; last = closed.by.last }; closed = closed; given = comes-line lines closed }
 
   -- ---- no
 
@@ -130,9 +121,21 @@ module _ (job : Job) (alone : IsAlone job) where
           ∙ sym (holds_is w job.query.peer m local-at x job.query.right) ∙ h);
     }
 
-    pub counters : IsCounter job.pinned job.query w
+    counters : IsCounter job.pinned job.query w
     counters = record {
       world = is_world;
       satisfies = λ j v e. only-version j v (sym (ap (λ vs. slice_get vs j) alone.only) ∙ e);
       element = (x, counterexample);
+    }
+
+    given : IsWrittenInGiven job m
+    given = record {
+      names = λ k d lt. name-given job job.query.peer is-relevant m (root_label job.query) (root-within job) right.lean right.shaped (get_or m.names k d) k (slice_get-get_or m.names k d lt);
+      roles = λ k d lt. role-given job job.query.peer is-relevant m (root_label job.query) (root-within job) right.lean (get_or m.roles k d) k (slice_get-get_or m.roles k d lt);
+    }
+
+    pub refutes : IsRightNo job w
+    refutes = record {
+      counter = counters;
+      given = subst (All (IsWrittenInGiven job)) (sym locals) (All-cons (IsWrittenInGiven job) m [] given (All-nil (IsWrittenInGiven job)));
     }

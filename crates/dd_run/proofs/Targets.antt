@@ -19,7 +19,7 @@ use Rattle.dd_run.specs.Fit.{closure_for}
 use Rattle.dd_run.specs.Numbers.{HaveTargets}
 
 -- a rule among those from one peer is one of all
-IsIn : List Rule → Rule → Type 0
+pub IsIn : List Rule → Rule → Type 0
 IsIn rules r = (q : ℕ) × (slice_get rules q ≡ Some r)
 
 from-first : (s : Rule) (rules few : List Rule) (r : Rule) → ((j : ℕ) → slice_get few j ≡ Some r → IsIn rules r) → (k : ℕ) → slice_get (s ∷ few) k ≡ Some r
@@ -39,7 +39,7 @@ from-all (s ∷ rules) h k r e = elim (cases_Bool (s.from == h)) [
       (suc found.0, found.1)
 ]
 
-from-version : (list : PeerVersion → List Rule) (o : Option PeerVersion) (h k : ℕ) (r : Rule)
+pub from-version : (list : PeerVersion → List Rule) (o : Option PeerVersion) (h k : ℕ) (r : Rule)
     → slice_get (option_map_or (λ v. rules_from (list v) h) o []) k ≡ Some r → (q : ℕ) × (slice_get (option_map_or list o []) q ≡ Some r)
 unfolding IsIn
 from-version list None h k r e = cc

@@ -1,5 +1,5 @@
 pub mod Fit
 pub mod Closures
-pub mod Found
-pub mod Answered
+pub mod Given
+pub mod Answers
 pub mod Numbers

@@ -1,49 +1,54 @@
 //! The answer to the query of a peer that is alone.
 ghost use Rattle.std.specs.Prelude.{◌≡◌, ◌∷◌, [], IfOk};
-ghost use Rattle.dd_task.specs.declared.job.Key.TheVariants.{Root};
 ghost use Rattle.dd_task.specs.Goals.{goal_for};
-ghost use Rattle.dd_run.specs.Answered.{IsRightAnswer};
+ghost use Rattle.dd_task.specs.Verdicts.{IsRight};
+ghost use Rattle.dd_task.specs.declared.job.Key.TheVariants.{Root};
+ghost use Rattle.dd_run.specs.Answers.{IsRightAnswer};
 ghost use Rattle.dd_run.specs.Fit.{HasFewConcepts, IsAlone};
-ghost use Rattle.dd_run.specs.Found.{IsRightFound};
 
-use crate::found::{Found, search};
+use crate::verdict::verdict_of;
+use dd_answer::Answer;
 use dd_concept::Items;
 use dd_interp::Interp;
 use dd_set::NoMemory;
-use dd_task::{Goal, Job, Key, SpentRun, goal_of};
+use dd_task::{Job, Key, Verdict, goal_of};
 use dd_world::World;
 use std::alloc::Global;
 
-/// The answer to a query: it follows, a countermodel, or the run that used up its expansions.
-#[derive(Drop)]
-pub enum Answered {
-    Yes,
-    No(World),
-    Spent(SpentRun),
+/// The answer to the query of a job with one peer: lines that derive it, a countermodel, the run that used up its expansions, or
+/// want of memory.
+pub fn answer_alone(alloc: Global, job: &Job) -> Answer
+    requires alone { IsAlone job.now }
+    requires few { HasFewConcepts job.now 0 }
+    ensures { IsRightAnswer job.now result }
+{
+    match answer(alloc, job) {
+        Ok(answer) => answer,
+        Err(_) => Answer::Memory,
+    }
 }
 
-/// Answers the query of a job with one peer.
-pub fn answer_alone(alloc: Global, job: &Job) -> Result<Answered, NoMemory>
+fn answer(alloc: Global, job: &Job) -> Result<Answer, NoMemory>
     requires alone { IsAlone job.now }
     requires few { HasFewConcepts job.now 0 }
     ensures { IfOk result (IsRightAnswer job.now) }
 {
     let goal = goal_of(alloc, job, &Key::Root)?;
-    let found = search(alloc, job, &goal, &[])?;
+    let verdict = verdict_of(alloc, job, &goal, &[])?;
     drop(goal);
-    answer_by(alloc, job, found)
+    answer_by(alloc, job, verdict)
 }
 
-/// The answer by what was found of the query's goal.
-fn answer_by(alloc: Global, _job: &Job, found: Found) -> Result<Answered, NoMemory>
+/// The answer by the verdict on the query's goal.
+fn answer_by(alloc: Global, _job: &Job, verdict: Verdict) -> Result<Answer, NoMemory>
     requires alone { IsAlone _job.now }
-    requires right { IsRightFound _job.now (goal_for _job.now Root) [] found }
+    requires right { IsRight _job.now (goal_for _job.now Root) [] verdict }
     ensures { IfOk result (IsRightAnswer _job.now) }
 {
-    match found {
-        Found::Closed => Ok(Answered::Yes),
-        Found::Open(model, x) => Ok(Answered::No(world_of(alloc, model)?)),
-        Found::Spent(run) => Ok(Answered::Spent(run)),
+    match verdict {
+        Verdict::Closed(lines) => Ok(Answer::Yes(lines)),
+        Verdict::Open(model, x) => Ok(Answer::No(world_of(alloc, model)?)),
+        Verdict::Spent(run) => Ok(Answer::RunSpent(run)),
     }
 }
 

@@ -1,7 +1,7 @@
 //! Tests of the libraries, by their public calls. They stand in a crate of their own, since a crate with tests is proved twice.
 //!
 //! They show what no session of the program's own tests shows: `concepts`, `interpretations`, `peers` and `worlds` of several
-//! peers; `tasks` with their goals, `runs` over these, and `derivations`; `labels` as sets and in a table, `labels_of_rules` under the rules of a
+//! peers; `tasks` with their goals, and `derivations`; `labels` as sets and in a table, `labels_of_rules` under the rules of a
 //! peer, and `closures` the concepts of one by their numbers; `lines` however they are read; `members` of JSON objects; `symbols`
 //! and `texts` both ways; `lookups` and `replies` of the protocol, with the codes that the program does not answer yet. `kept_answers` by their keys, requests that are
 //! `made`, and `words` as commands. `rows` says what a table
@@ -43,8 +43,6 @@ mod pins;
 #[cfg(test)]
 mod replies;
 pub mod rows;
-#[cfg(test)]
-mod runs;
 #[cfg(test)]
 mod symbols;
 #[cfg(test)]
