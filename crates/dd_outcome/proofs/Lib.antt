@@ -1,0 +1,4 @@
+pub mod Lists
+pub mod Yes
+pub mod No
+pub mod Spent

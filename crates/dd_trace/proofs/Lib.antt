@@ -1,0 +1,5 @@
+pub mod Lists
+pub mod Moving
+pub mod Needing
+pub mod Tracing
+pub mod Shown

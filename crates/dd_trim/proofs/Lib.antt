@@ -1,0 +1,4 @@
+pub mod Marking
+pub mod Kept
+pub mod Renumbered
+pub mod Trimming

@@ -1,0 +1,12 @@
+pub mod Gathered
+pub mod Raises
+pub mod Joining
+pub mod Shown
+pub mod Raised
+pub mod Reading
+pub mod Placing
+pub mod Parts
+pub mod Countermodel
+pub mod Quiet
+pub mod Inside
+pub mod Written

@@ -1,0 +1,5 @@
+pub mod Union
+pub mod Laws
+pub mod Pieces
+pub mod Inside
+pub mod Evidence
