@@ -179,7 +179,7 @@ fits s (form.ask peer left right e v) p y r one built found is =
     subst (Fits (with_symbols s y)) (sym q) (only_number (names_of s) peer (single s.peers some one) (declared_in s.peers peer declared), some)
 fits s (form.check peer left right pin cert) p y r one built found is =
     let q : IsRequest (names_of s) y (text.check peer found.parses.0 found.parses.1 pin cert) r = subst (λ (q : Parsed). IsRequest (names_of s) y q r) found.parses.4 is in
-    let declared = (and_parts (is_declared s.peers peer) _ (and_parts (is_declared s.peers peer && _) true built).0).0 in
+    let declared = (and_parts (is_declared s.peers peer) true built).0 in
     subst (Fits (with_symbols s y)) (sym q.2) (declared_some s.peers peer declared)
 fits s form.versions p y r one built found is = absurd (off built)
 

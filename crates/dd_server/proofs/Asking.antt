@@ -3,25 +3,28 @@ use Rattle.std.proofs.Common.{◌≡◌, ℕ, ◌<◌, List, [], ◌∷◌, leng
 use Rattle.std.proofs.lemmas.Bool.{le-leb, lt-leb}
 use Rattle.std.proofs.lemmas.List.Elements.{All-head, All-tail}
 use Rattle.std.specs.Prelude.{nat_le, slice_get, All, cond}
-use Rattle.dd_run.specs.Answered.{IsRightAnswer}
+use Rattle.dd_answer.specs.declared.answer.Answer.{Answer}
+use Rattle.dd_answer.specs.declared.answer.Answer.TheVariants as answer
+use Rattle.dd_check.proofs.Sound.{derived-follows}
+use Rattle.dd_run.specs.Answers.{IsRightAnswer}
 use Rattle.dd_run.specs.Closures.{IsFirstFull}
 use Rattle.dd_run.specs.Fit.{closure_for, HasFewConcepts}
-use Rattle.dd_run.specs.declared.alone.Answered.{Answered}
-use Rattle.dd_run.specs.declared.alone.Answered.TheVariants as answered
 use Rattle.dd_run.specs.declared.closures.ClosureErr.{ClosureErr}
 use Rattle.dd_run.specs.declared.closures.ClosureErr.TheVariants.{Full, NoMemory}
 use Rattle.dd_task.specs.declared.job.Job.{Job}
 use Rattle.dd_wire.specs.declared.reply.Reply.{Reply}
-use Rattle.dd_server.specs.Answers.{Ask, follows, fails, run_spent}
+use Rattle.dd_server.specs.Answers.{Ask, follows, fails, run_spent, memory}
 use Rattle.dd_server.specs.Asks.{first_full, most_concepts}
 use Rattle.dd_server.specs.Session.{TellsAnswer}
 use Rattle.dd_server.specs.Told.{TellsAnswered, TellsCount}
 
 -- a right answer is one that the ask may get
-pub tells_answer : (ask : Ask) (a : Answered) (given : Reply) → IsRightAnswer ask.job a → TellsAnswered ask.id ask.pin a given → TellsAnswer ask given
-tells_answer ask answered.Yes given right told = (follows, right, told)
-tells_answer ask (answered.No w) given right told = (fails w, right, told)
-tells_answer ask (answered.Spent run) given right told = (run_spent run, right, told)
+pub tells_answer : (ask : Ask) (a : Answer) (given : Reply) → IsRightAnswer ask.job a → TellsAnswered ask.id ask.pin a given → TellsAnswer ask given
+tells_answer ask (answer.Yes lines) given right told = (follows, derived-follows ask.job.pinned ask.job.query lines right.derives, told)
+tells_answer ask (answer.No w) given right told = (fails w, right.counter, told)
+tells_answer ask (answer.RunSpent run) given right told = (run_spent run, right, told)
+tells_answer ask (answer.VerdictsSpent n) given right told = absurd right
+tells_answer ask answer.Memory given right told = (memory, tt, told)
 
 -- ---- closures
 

@@ -3,9 +3,11 @@ use Rattle.std.proofs.Common.{◌≡◌, ◌==◌, ℕ, ◌+◌, List, [], ◌�
 use Rattle.std.proofs.lemmas.List.{append-nil}
 use denote.Bor.{Bor}
 use Rattle.dd_lines.specs.Lines.{lines_of}
+use Rattle.serde_json.specs.Data.{Data}
 use Rattle.dd_text.specs.Symbols.{SymbolLists}
 use Rattle.dd_peer.specs.Question.{Question}
-use Rattle.dd_cert.specs.Certificates.{Tried, Certified, field, place, text, full, cert_in}
+use Rattle.dd_cert.specs.Certificates.{Tried, Certified, field, place, text, full}
+use Rattle.dd_cert.proofs.Certain.{some_cert_in}
 use Rattle.dd_wire.specs.Forms.{Written}
 use Rattle.dd_wire.specs.Placed.{placed}
 use Rattle.dd_wire.specs.Refusal.{Tested, ◌>>=◌}
@@ -17,7 +19,7 @@ use Rattle.dd_wire.specs.declared.reply.Reply.TheVariants as reply
 use Rattle.dd_wire.specs.declared.reply.Unread.TheVariants as unread
 use Rattle.dd_server.specs.declared.options.Options.{Options}
 use Rattle.dd_server.specs.Answers.{memory}
-use Rattle.dd_server.specs.Session.{State, Kept, finished, asked, names_of, built_form, admitted, Passes, question_at, Judges, Obeys, Finishes, Finish, is_blank, Standing, Closes, Turns, Turn, Through, opening, Session}
+use Rattle.dd_server.specs.Session.{State, Kept, finished, asked, names_of, built_form, admitted, Passes, question_at, Judges, JudgesValue, Obeys, Finishes, Finish, is_blank, Standing, Closes, Turns, Turn, Through, opening, Session}
 use Rattle.dd_server.proofs.Judging.{judges_some_cert}
 
 -- ---- a line is read
@@ -42,6 +44,11 @@ judges_some id q (Err (place at value)) = (reply.Unreadable id (unread.Place _ v
 judges_some id q (Err (text at)) = (reply.Unreadable id (unread.Text _), refl)
 judges_some id q (Err full) = (reply.Refused id 12 None, refl)
 
+judges_value : (id : ℕ) (q : Question) (s : SymbolLists) (d : Data) → (given : Reply) × JudgesValue id q s d given
+judges_value id q s d =
+    let found = some_cert_in s d in
+    let told = judges_some id q found.0 in (told.0, (found.0, found.1, told.1))
+
 -- a request does something
 pub record MayDo (o : Options) (s : State) (id : ℕ) (found : Tested Resolved) : Type 0 where
   pub next : State
@@ -53,7 +60,7 @@ does_some o s id y (peers ns) = record { next = _; kept = _; obeys = (refl, refl
 does_some o s id y (put peer axioms into onto) = record { next = _; kept = _; obeys = (refl, refl) }
 does_some o s id y (ask peer left right expansions verdicts) = record { next = _; kept = _; obeys = (refl, refl) }
 does_some o s id y (check peer left right pin cert) =
-    let told = judges_some id (question_at s pin (query_of (names_of s) y peer left right)) (cert_in y cert) in
+    let told = judges_value id (question_at s pin (query_of (names_of s) y peer left right)) y cert in
     record { next = s; kept = finished told.0; obeys = (refl, told.0, refl, told.1) }
 does_some o s id y versions = record { next = _; kept = _; obeys = (refl, refl) }
 

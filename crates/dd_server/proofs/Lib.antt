@@ -1,7 +1,6 @@
 pub mod Turning
 pub mod Only
 pub mod Requests
-pub mod Certs
 pub mod Deciding
 pub mod Judging
 pub mod Runs

@@ -85,6 +85,7 @@ alone_job o v y q b some one h zero = record {
   version = present (history_of v);
   only = ap (λ (p : Pinned). p.peers) (pinned_only (declared_names o) (history_of v) (single o some one));
   asked = zero;
+  relevant = ap (λ (n : ℕ). n ∷ []) zero;
   no_onto = present_no_onto v h;
 }
 

@@ -10,7 +10,6 @@ use Rattle.dd_peer.specs.declared.check.PeerErr.{PeerErr}
 use Rattle.dd_peer.specs.declared.version.PeerVersion.{PeerVersion}
 use Rattle.dd_peer.specs.declared.version.Query.{Query}
 use Rattle.dd_task.specs.declared.job.Budget.{Budget}
-use Rattle.dd_cert.specs.Certificates.{cert_in}
 use Rattle.dd_wire.specs.Placed.{are_peers}
 use Rattle.dd_wire.specs.Forms.{Written}
 use Rattle.dd_wire.specs.Refusal.{Tested, ◌>>=◌, not_built, bad_pin}
@@ -24,7 +23,7 @@ use Rattle.dd_server.specs.History.{pin_of, is_pin}
 use Rattle.dd_server.specs.Answers as kept
 use Rattle.dd_server.specs.Asks.{closures_pass, job_passes}
 use Rattle.dd_server.specs.declared.options.Options.{Options}
-use Rattle.dd_server.specs.Session.{State, Kept, Passes, admitted, Obeys, FinishesAsk, Finishes, refused_version, with_put, question_at, ask_at, job_within, Judges, names_of}
+use Rattle.dd_server.specs.Session.{State, Kept, Passes, admitted, Obeys, FinishesAsk, Finishes, refused_version, with_put, question_at, ask_at, job_within, JudgesValue, names_of}
 
 -- symbols that are cut to the mark are those from before
 pub record CutsTo (m : Mark) (now before : SymbolLists) : Type 0 where
@@ -56,7 +55,7 @@ AskWithin old id s q budget new given = let job = job_within old q budget in
     AskBy (closures_pass job) old s (record { id = id; pin = pin_of (names_of old) old.history; job = job }) new given
 
 abbrev pub CheckBy : Bool → ℕ → Question → SymbolLists → Data → Reply → Type 0
-CheckBy true id q s cert given = Judges id q (cert_in s cert) given
+CheckBy true id q s cert given = JudgesValue id q s cert given
 CheckBy false id q s cert given = given ≡ reply.Refused id bad_pin None
 
 -- what a request does to the state from before its symbols were added, as a window of its own

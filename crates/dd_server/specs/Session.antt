@@ -2,6 +2,7 @@
 use Rattle.std.specs.Prelude.{◌≡◌, ℕ, ◌+◌, ◌==◌, ◌&&◌, ◌⊎◌, Bool, true, false, nat_le, List, [], ◌∷◌, ◌++◌, length, Option, None, Some, unwrap_or, Ok, Err}
 use denote.Bor.{Bor}
 use Rattle.std.specs.List.{flat_map}
+use Rattle.serde_json.specs.Data.{Data}
 use Rattle.dd_lines.specs.Lines.{lines_of}
 use Rattle.dd_text.specs.Reads.{told}
 use Rattle.dd_text.specs.Symbols.{SymbolLists, number_of}
@@ -13,6 +14,8 @@ use Rattle.dd_peer.specs.declared.version.PeerVersion.{PeerVersion}
 use Rattle.dd_peer.specs.declared.version.Query.{Query}
 use Rattle.dd_task.specs.declared.job.Budget.{Budget}
 use Rattle.dd_task.specs.declared.job.Job.{Job}
+use Rattle.dd_task.specs.declared.line.Line.{Line}
+use Rattle.dd_task.specs.Derives.{Derives}
 use Rattle.dd_world.specs.Faults.{IsFirstFault}
 use Rattle.dd_world.specs.World.{IsCounter}
 use Rattle.dd_world.specs.declared.world.World.{World}
@@ -20,7 +23,8 @@ use Rattle.dd_world.specs.declared.world.WorldFault.{WorldFault}
 use Rattle.dd_world.specs.declared.world.WorldFault.TheVariants as fault
 use Rattle.dd_cert.specs.declared.read.Cert.{Cert}
 use Rattle.dd_cert.specs.declared.read.Cert.TheVariants as cert
-use Rattle.dd_cert.specs.Certificates.{Tried, Certified, Unreadable, field, place, text, full, cert_in}
+use Rattle.dd_cert.specs.Certificates.{Tried, Certified, Unreadable, field, place, text, full, IsCertIn}
+use Rattle.dd_check.specs.Faults.{IsFault}
 use Rattle.dd_wire.specs.Accepted.{is_accepted, is_empty}
 use Rattle.dd_wire.specs.Forms.{Written}
 use Rattle.dd_wire.specs.Forms as form
@@ -157,8 +161,14 @@ abbrev pub JudgesWorld : ℕ → Question → World → Reply → Type 0
 JudgesWorld id q w given = ((given ≡ reply.Valid id) × IsCounter q.pinned q.query w)
     ⊎ ((f : WorldFault) × IsFirstFault q.pinned q.query w f × (given ≡ reply.InvalidWorld id (fault_replied f)))
 
+-- a check of lines is valid exactly where they derive the query, and else the place is replied at which they fail to
+abbrev pub JudgesLines : ℕ → Question → List Line → Reply → Type 0
+JudgesLines id q lines given = ((given ≡ reply.Valid id) × Derives q.pinned q.query lines)
+    ⊎ ((at : ℕ) × IsFault q.pinned q.query lines at × (given ≡ reply.InvalidLines id at))
+
 -- the reply tells of what a certificate is evidence of, by its kind
 abbrev pub JudgesCert : ℕ → Question → Cert → Reply → Type 0
+JudgesCert id q (cert.Yes lines) given = JudgesLines id q lines given
 JudgesCert id q (cert.No w) given = JudgesWorld id q w given
 
 -- where a value stops to be a certificate, as it is replied; where it brings too many symbols the request is refused
@@ -168,10 +178,14 @@ IsUnread id (place at value) given = given ≡ reply.Unreadable id (unread.Place
 IsUnread id (text at) given = given ≡ reply.Unreadable id (unread.Text (told at))
 IsUnread id full given = given ≡ reply.Refused id symbols_full None
 
--- what is replied to a check, by the world that its certificate is, or where the certificate stops to be one
+-- what is replied to a check, by the evidence that its certificate is, or where the certificate stops to be one
 abbrev pub Judges : ℕ → Question → Tried Certified → Reply → Type 0
 Judges id q (Ok c) given = JudgesCert id q c.cert given
 Judges id q (Err e) given = IsUnread id e given
+
+-- what is replied to a check whose certificate is this value, read with these symbols
+abbrev pub JudgesValue : ℕ → Question → SymbolLists → Data → Reply → Type 0
+JudgesValue id q s d given = (found : Tried Certified) × IsCertIn s d found × Judges id q found given
 
 -- What an accepted request does, whose symbols have been added, and what it leaves. A check is judged here, and the
 -- symbols are as they were.
@@ -186,7 +200,7 @@ Does options old id s (parsed.ask peer left right expansions verdicts) new kept 
     × (kept ≡ asked (ask_at options old id (query_of (names_of old) s peer left right) expansions verdicts))
 Does options old id s (parsed.check peer left right pin cert) new kept =
     (new ≡ old) × (given : Reply) × (kept ≡ finished given)
-    × Judges id (question_at old pin (query_of (names_of old) s peer left right)) (cert_in s cert) given
+    × JudgesValue id (question_at old pin (query_of (names_of old) s peer left right)) s cert given
 -- no test lets it through so far
 Does options old id s parsed.versions new kept = (new ≡ old) × (kept ≡ finished (reply.Refused id not_built None))
 

@@ -6,8 +6,9 @@ ghost use Rattle.dd_server.specs.Session.{TellsAnswer, budget_of};
 ghost use Rattle.dd_server.specs.Told.{TellsAnswered, TellsCount};
 
 use crate::options::Options;
+use dd_answer::Answer;
 use dd_concept::NoMemory;
-use dd_run::{Answered, ClosureErr, answer_alone, check_closures};
+use dd_run::{ClosureErr, answer_alone, check_closures};
 use dd_task::{Budget, Job};
 use dd_wire::{Pin, Reply};
 use std::alloc::Global;
@@ -71,29 +72,28 @@ pub fn reply_to_ask(alloc: Global, id: u64, pin: Pin, job: &Job) -> Reply
     ensures tells { TellsAnswer (record { id = id; pin = pin.versions; job = job.now }) result }
     ensures printable { IsPrintable result }
 {
-    match answer_alone(alloc, job) {
-        Ok(answered) => reply_of(id, pin, answered),
-        Err(_) => Reply::Memory { id, pin },
-    }
+    reply_of(id, pin, answer_alone(alloc, job))
 }
 
-/// The reply to an ask that has this answer.
-fn reply_of(id: u64, pin: Pin, answered: Answered) -> Reply
-    ensures tells { TellsAnswered id pin.versions answered result }
+/// The reply to an ask that has this answer. A peer that is alone takes one verdict, so its verdicts are never spent.
+fn reply_of(id: u64, pin: Pin, answer: Answer) -> Reply
+    ensures tells { TellsAnswered id pin.versions answer result }
     ensures printable { IsPrintable result }
 {
-    match answered {
-        Answered::Yes => Reply::Decided { id, yes: true, pin },
-        Answered::No(_) => Reply::Decided {
+    match answer {
+        Answer::Yes(_) => Reply::Decided { id, yes: true, pin },
+        Answer::No(_) => Reply::Decided {
             id,
             yes: false,
             pin,
         },
-        Answered::Spent(run) => Reply::RunSpent {
+        Answer::RunSpent(run) => Reply::RunSpent {
             id,
             count: run.labels.as_slice().len() as u64,
             peer: run.peer,
             pin,
         },
+        Answer::VerdictsSpent(_) => Reply::Memory { id, pin },
+        Answer::Memory => Reply::Memory { id, pin },
     }
 }

@@ -2,21 +2,24 @@ ghost use Rattle.std.specs.Prelude.{◌≡◌, IfOk, OnErr, Result};
 ghost use Rattle.serde_json.specs.View.{view};
 ghost use Rattle.dd_peer.specs.Versions.{AreNumbered};
 ghost use Rattle.dd_text.specs.Symbols.{Grows};
-ghost use Rattle.dd_cert.specs.Certificates.{Tells, cert_in, Certified, Tried};
+ghost use Rattle.dd_cert.specs.Certificates.{Tells, Certified, Tried};
 ghost use Rattle.dd_world.specs.Faults.{judged_by, fault_of};
-ghost use Rattle.dd_server.specs.Session.{Judges, JudgesCert, fault_replied};
-ghost use Rattle.dd_server.specs.Judged.{JudgedBy, Unreads};
+ghost use Rattle.dd_server.specs.Session.{JudgesCert, JudgesLines, JudgesValue, JudgesWorld, fault_replied};
+ghost use Rattle.dd_server.specs.Judged.{JudgedBy, LinesBy, Unreads};
 
 use dd_cert::{Cert, CertErr, read_cert};
+use dd_check::{LineFault, check_lines};
 use dd_concept::NoMemory;
 use dd_peer::{Pinned, Query};
+use dd_task::Line;
 use dd_text::Symbols;
 use dd_wire::{BadWorld, Reply, SYMBOLS_FULL, Unread};
-use dd_world::{WorldFault, judge_world};
+use dd_world::{World, WorldFault, judge_world};
 use serde_json::Value;
 use std::alloc::Global;
 
-/// The reply to a check: whether the world that its certificate is refutes the query under these versions. The symbols
+/// The reply to a check: whether the lines that its certificate is derive
+/// the query under these versions, or the world that it is refutes it. The symbols
 /// of the certificate are added.
 pub fn judge(
     alloc: Global,
@@ -27,7 +30,7 @@ pub fn judge(
     cert: &Value,
 ) -> Result<Reply, NoMemory>
     requires numbered { AreNumbered pinned.now }
-    ensures judges { IfOk result (Judges id (record { pinned = pinned.now; query = query.now }) (cert_in symbols.old (view cert.now))) }
+    ensures judges { IfOk result (JudgesValue id (record { pinned = pinned.now; query = query.now }) symbols.old (view cert.now)) }
     ensures grows { Grows symbols.old symbols.new }
 {
     let _mark = symbols.mark();
@@ -49,11 +52,45 @@ fn judge_cert(
     ensures { IfOk result (JudgesCert id (record { pinned = pinned.now; query = query.now }) cert) }
 {
     match cert {
-        Cert::No(world) => {
-            let verdict = judge_world(alloc, pinned, query, &world)?;
-            Ok(judged(id, verdict))
-        }
+        Cert::Yes(lines) => judge_lines(id, pinned, query, lines.as_slice()),
+        Cert::No(world) => judge_no(alloc, id, pinned, query, &world),
     }
+}
+
+/// The reply to lines. There are fewer than 2^32, or there was no memory for them.
+fn judge_lines(id: u64, pinned: &Pinned, query: &Query, lines: &[Line]) -> Result<Reply, NoMemory>
+    ensures { IfOk result (JudgesLines id (record { pinned = pinned.now; query = query.now }) lines.now) }
+{
+    if lines.len() > u32::MAX as usize {
+        return Err(NoMemory);
+    }
+    let verdict = check_lines(pinned, query, lines);
+    Ok(judged_lines(id, verdict))
+}
+
+/// The reply where lines were judged.
+fn judged_lines(id: u64, verdict: Result<(), LineFault>) -> Reply
+    ensures { LinesBy id verdict result }
+{
+    match verdict {
+        Ok(()) => Reply::Valid { id },
+        Err(fault) => Reply::InvalidLines { id, at: fault.at },
+    }
+}
+
+/// The reply to a world.
+fn judge_no(
+    alloc: Global,
+    id: u64,
+    pinned: &Pinned,
+    query: &Query,
+    world: &World,
+) -> Result<Reply, NoMemory>
+    requires numbered { AreNumbered pinned.now }
+    ensures { IfOk result (JudgesWorld id (record { pinned = pinned.now; query = query.now }) world.now) }
+{
+    let verdict = judge_world(alloc, pinned, query, world)?;
+    Ok(judged(id, verdict))
 }
 
 /// The reply where a world was judged.

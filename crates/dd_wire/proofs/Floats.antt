@@ -4,7 +4,7 @@ use Rattle.std.specs.Prelude.{None, Some, map}
 use Rattle.serde_json.specs.Written.{has_float, items_have_float}
 use Rattle.dd_wire.specs.Replies.{items_of, whole_number, reply_data}
 use Rattle.dd_wire.specs.declared.reply.Reply.{Reply}
-use Rattle.dd_wire.specs.declared.reply.Reply.TheVariants.{Refused, Peers, Put, Decided, RunSpent, Memory, Valid, InvalidWorld, Unreadable}
+use Rattle.dd_wire.specs.declared.reply.Reply.TheVariants.{Refused, Peers, Put, Decided, RunSpent, Memory, Valid, InvalidLines, InvalidWorld, Unreadable}
 use Rattle.dd_wire.specs.declared.reply.BadWorld.TheVariants as fault
 use Rattle.dd_wire.specs.declared.reply.Unread.TheVariants as unread
 
@@ -21,6 +21,7 @@ no_float (Decided id verdict pin) = rw (no_float_in pin.versions)
 no_float (RunSpent id count peer pin) = rw (no_float_in pin.versions)
 no_float (Memory id pin) = rw (no_float_in pin.versions)
 no_float (Valid id) = refl
+no_float (InvalidLines id at) = refl
 no_float (InvalidWorld id fault.Shape) = refl
 no_float (InvalidWorld id fault.NotCounter) = refl
 no_float (InvalidWorld id (fault.Axiom index peer)) = refl

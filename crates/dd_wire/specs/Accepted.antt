@@ -1,10 +1,9 @@
 -- Which forms of requests are accepted so far, by the peers that are declared.
-use Rattle.std.specs.Prelude.{ℕ, Bool, false, true, not, ◌&&◌, ◌==◌, is_some, List, [], ◌∷◌, length, Option, None, Some, codes}
+use Rattle.std.specs.Prelude.{ℕ, Bool, false, true, not, ◌&&◌, ◌==◌, is_some, List, [], ◌∷◌, length, Option, None, Some}
 use Rattle.std.specs.List.{list_all}
-use Rattle.serde_json.specs.Data.{Data}
 use Rattle.dd_text.specs.Names.{names_a_thing}
 use Rattle.dd_text.specs.Symbols.{has_text}
-use Rattle.dd_wire.specs.Forms.{Written, peers, put, ask, check, versions, says}
+use Rattle.dd_wire.specs.Forms.{Written, peers, put, ask, check, versions}
 
 abbrev pub is_declared : Option (List (List ℕ)) → List ℕ → Bool
 is_declared None peer = false
@@ -18,15 +17,10 @@ abbrev pub is_empty : {A : Type 0} → List A → Bool
 is_empty [] = true
 is_empty (x ∷ xs) = false
 
--- an object that says that it is a derivation
-abbrev pub is_derivation : Data → Bool
-is_derivation cert = says (codes "kind") (codes "yes") cert
-
--- The first declaration, of one name; puts without rules, asks without a limit of verdicts, and checks of what is no
--- derivation, each of a declared peer.
+-- The first declaration, of one name; puts without rules, asks without a limit of verdicts, and checks, each of a declared peer.
 abbrev pub is_accepted : Option (List (List ℕ)) → Written → Bool
 is_accepted names (peers ns) = not (is_some names) && is_one_name ns
 is_accepted names (put peer axioms into onto) = is_declared names peer && is_empty into && is_empty onto
 is_accepted names (ask peer left right expansions verdicts) = is_declared names peer && not (is_some verdicts)
-is_accepted names (check peer left right pin cert) = is_declared names peer && not (is_derivation cert)
+is_accepted names (check peer left right pin cert) = is_declared names peer
 is_accepted names versions = false

@@ -9,7 +9,7 @@ use Rattle.dd_wire.specs.declared.reply.BadWorld.TheVariants as fault
 use Rattle.dd_wire.specs.declared.reply.Unread.{Unread}
 use Rattle.dd_wire.specs.declared.reply.Unread.TheVariants as unread
 use Rattle.dd_wire.specs.declared.reply.Reply.{Reply}
-use Rattle.dd_wire.specs.declared.reply.Reply.TheVariants.{Refused, Peers, Put, Decided, RunSpent, Memory, Valid, InvalidWorld, Unreadable}
+use Rattle.dd_wire.specs.declared.reply.Reply.TheVariants.{Refused, Peers, Put, Decided, RunSpent, Memory, Valid, InvalidLines, InvalidWorld, Unreadable}
 
 abbrev pub whole_number : ℕ → Data
 whole_number n = number (unsigned n)
@@ -83,6 +83,8 @@ reply_data (Decided id verdict pin) = verdict_data id pin.versions (verdict_name
 reply_data (RunSpent id count peer pin) = spent_data id pin.versions count peer
 reply_data (Memory id pin) = verdict_data id pin.versions (codes "memory")
 reply_data (Valid id) = object (member (codes "check") (string (codes "valid")) (member (codes "id") (whole_number id) no_members))
+reply_data (InvalidLines id at) = object (member (codes "at") (whole_number at) (member (codes "check") (string (codes "invalid"))
+    (member (codes "id") (whole_number id) no_members)))
 reply_data (InvalidWorld id fault) = fault_data id fault
 reply_data (Unreadable id what) = unread_data id what
 

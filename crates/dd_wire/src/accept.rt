@@ -3,13 +3,13 @@ ghost use Rattle.std.specs.Option.{option_copied};
 ghost use Rattle.dd_wire.specs.Accepted.{is_accepted, is_declared, is_one_name};
 ghost use Rattle.dd_wire.specs.Forms.{written_of};
 
-use crate::form::{Form, says};
+use crate::form::Form;
 use crate::names::Names;
 use dd_json::Text;
 use dd_text::is_name;
 
 /// Whether a form is accepted so far: the first declaration, of one name; puts without rules, asks without a limit of
-/// verdicts, and checks of what is no derivation, each of a declared peer.
+/// verdicts, and checks, each of a declared peer.
 pub fn is_accepted_form(names: Option<&Names>, form: &Form) -> bool
     ensures { result ≡ is_accepted (option_copied names.entry) (written_of form.now) }
 {
@@ -28,9 +28,7 @@ pub fn is_accepted_form(names: Option<&Names>, form: &Form) -> bool
         Form::Ask { peer, verdicts, .. } => {
             is_declared(names, peer.as_slice()) && verdicts.is_none()
         }
-        Form::Check { peer, cert, .. } => {
-            is_declared(names, peer.as_slice()) && !says(cert, "kind", "yes")
-        }
+        Form::Check { peer, .. } => is_declared(names, peer.as_slice()),
         Form::Versions => false,
     }
 }

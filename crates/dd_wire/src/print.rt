@@ -39,6 +39,7 @@ fn value_of(alloc: Global, reply: &Reply) -> Result<Value, NoMemory>
         } => run_spent(alloc, *id, *count, *peer, pin),
         Reply::Memory { id, pin } => asked(alloc, *id, pin, "memory"),
         Reply::Valid { id } => valid(alloc, *id),
+        Reply::InvalidLines { id, at } => invalid_lines(alloc, *id, *at),
         Reply::InvalidWorld { id, fault } => invalid(alloc, *id, fault),
         Reply::Unreadable { id, what } => unreadable(alloc, *id, what),
     }
@@ -113,6 +114,14 @@ fn valid(alloc: Global, id: u64) -> Result<Value, NoMemory>
     ensures { IfOk result (λ value. view value ≡ reply_data (Reply.Valid id)) }
 {
     let reply = of_check(alloc, id, "valid")?;
+    Ok(Value::Object(reply))
+}
+
+fn invalid_lines(alloc: Global, id: u64, at: u32) -> Result<Value, NoMemory>
+    ensures { IfOk result (λ value. view value ≡ reply_data (Reply.InvalidLines id at)) }
+{
+    let reply = of_check(alloc, id, "invalid")?;
+    let reply = with(alloc, reply, "at", Value::from(at))?;
     Ok(Value::Object(reply))
 }
 

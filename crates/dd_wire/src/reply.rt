@@ -60,6 +60,12 @@ pub enum Reply {
     Valid {
         id: u64,
     },
+    /// The lines of a check derive nothing. `at` is the first that is not right, from 0, and the number of the lines where
+    /// all are right and the last does not say what is asked.
+    InvalidLines {
+        id: u64,
+        at: u32,
+    },
     InvalidWorld {
         id: u64,
         fault: BadWorld,
