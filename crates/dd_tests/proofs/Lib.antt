@@ -1,1 +1,4 @@
 pub mod Tested
+pub mod Fitted
+pub mod Runnable
+pub mod Answering

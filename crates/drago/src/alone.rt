@@ -2,7 +2,7 @@ ghost use Rattle.std.specs.Prelude.{◌≡◌, ℕ, ◌≤◌, ◌↔◌, List, 
 ghost use Rattle.std.specs.String.{string_bytes};
 ghost use Rattle.dd_lines.specs.Outside.{Rose};
 ghost use Rattle.dd_server.specs.Headline.{Output, Cause, Limit, Ends, most_bytes};
-ghost use Rattle.dd_server.specs.Options.{defaults};
+ghost use Rattle.dd_read.specs.Options.{defaults};
 ghost use Rattle.dd_server.specs.declared.status.Status.{Status};
 ghost use Rattle.drago.specs.Words.{IsAlone};
 

@@ -158,7 +158,7 @@ const DERIVATIONS: &str = r#"
 > {"op":"check","peer":"a","left":"A","right":"C","pin":[1],"cert":{"format":1,"kind":"yes","lines":[{"label":["A","(not A)"],"peer":4294967296,"why":{"name":"A","rule":"clash"}}]}}
 < {"check":"unreadable","id":23,"place":0,"value":4294967296}
 > {"op":"ask","peer":"a","left":"A","right":"C"}
-< {"id":24,"pin":[1],"verdict":"yes"}
+< {"from":"search","id":24,"pin":[1],"verdict":"yes"}
 "#;
 
 #[test]
