@@ -3,15 +3,14 @@ ghost use Rattle.std.specs.Prelude.{◌≤◌};
 use crate::alone::{USAGE, drago_alone};
 use dd_lines::{MemSink, MemSource};
 use std::alloc::{AllocError, Global};
-use transcript::{Failure, without_certs};
+use transcript::Failure;
 
 mod asks;
 mod certificates;
 mod checks;
-mod large;
 mod limits;
+mod made;
 mod refusals;
-mod rows;
 mod transcript;
 mod words;
 
@@ -21,10 +20,10 @@ const REQUESTS: &str = r#"{"op":"peers","names":["a"]}
 {"op":"ask","peer":"a","left":"A","right":"C"}
 "#;
 
-/// Their replies, the first two of 19 and 31 bytes with their line feeds, and the third without its certificate.
+/// Their replies, of 19, 31 and 35 bytes with their line feeds.
 const REPLIES: &str = r#"{"id":1,"peers":1}
 {"id":2,"put":"a","version":1}
-{"from":"search","id":3,"pin":[1],"verdict":"yes"}
+{"id":3,"pin":[1],"verdict":"yes"}
 "#;
 
 /// What is told of a source and a sink: what the sink was given by sessions one after another, each with its words, and
@@ -90,7 +89,7 @@ fn answers(alloc: Global, input: &[u8], piece: usize) -> Result<Vec<u8>, AllocEr
     requires { 1 ≤ piece }
 {
     let source = source_of(alloc, input, piece, NEVER)?;
-    let sink = sink_of(alloc, 262_144, 4096, NEVER)?;
+    let sink = sink_of(alloc, 65_536, 4096, NEVER)?;
     told(alloc, ALONE, source, sink)
 }
 
@@ -159,32 +158,19 @@ fn run_is_told(alloc: Global, row: usize, piece: usize) -> Result<(), Failure>
 {
     if let Some(run) = RUNS.get(row) {
         let told = answers(alloc, run.input, piece)?;
-        return is_wanted(alloc, row, told.as_slice(), Some(&[]), run.told);
+        return is_wanted(row, told.as_slice(), Some(&[]), run.told);
     }
     Ok(())
 }
 
-/// Whether these are the bytes and a text behind them, certificates aside.
-fn is_wanted(
-    alloc: Global,
-    row: usize,
-    told: &[u8],
-    front: Option<&[u8]>,
-    behind: &str,
-) -> Result<(), Failure> {
-    let shown = without_certs(alloc, told)?;
+/// Whether these are the bytes and a text behind them.
+fn is_wanted(row: usize, told: &[u8], front: Option<&[u8]>, behind: &str) -> Result<(), Failure> {
     if let Some(front) = front {
-        if shown.as_bytes().strip_prefix(front) == Some(line_of(alloc, behind)?.as_bytes()) {
+        if told.strip_prefix(front) == Some(behind.as_bytes()) {
             return Ok(());
         }
     }
     Err(Failure::Row { row })
-}
-
-fn line_of(alloc: Global, text: &str) -> Result<String, AllocError> {
-    let mut line = String::from_str(alloc, text)?;
-    line.push_str("\n")?;
-    Ok(line)
 }
 
 #[test]
@@ -216,13 +202,15 @@ const CUTS: &[(usize, u64, usize, u64, usize, &str)] = &[
         "{\"code\":1,\"error\":\"bad_json\",\"id\":2}\n0",
     ),
     (95, NEVER, 4096, NEVER, 50, "0"),
-    (143, NEVER, 4096, NEVER, 101, "0"),
-    // A read fails, and the window has not ended.
+    (143, NEVER, 4096, NEVER, 85, "0"),
+    // A read fails.
     (143, 0, 4096, NEVER, 0, "3"),
     (143, 2, 4096, NEVER, 0, "3"),
-    (143, 3, 4096, NEVER, 0, "3"),
-    (143, 10, 4096, NEVER, 0, "3"),
-    (143, 15, 4096, NEVER, 0, "3"),
+    (143, 3, 4096, NEVER, 19, "3"),
+    (143, 9, 4096, NEVER, 19, "3"),
+    (143, 10, 4096, NEVER, 50, "3"),
+    (143, 14, 4096, NEVER, 50, "3"),
+    (143, 15, 4096, NEVER, 85, "3"),
     // A write fails, or the sink is full.
     (143, NEVER, 4096, 0, 0, "4"),
     (143, NEVER, 4096, 1, 16, "4"),
@@ -243,7 +231,6 @@ fn cut_is_told(alloc: Global, row: usize) -> Result<(), Failure> {
     if let Some((input, read, capacity, write, given, behind)) = CUTS.get(row) {
         let told = breaks(alloc, *input, *read, *capacity, *write)?;
         return is_wanted(
-            alloc,
             row,
             told.as_slice(),
             REPLIES.as_bytes().get(..*given),
@@ -292,7 +279,7 @@ fn told_by_words(alloc: Global) -> Result<Vec<u8>, AllocError> {
 
 fn words_are_told(alloc: Global) -> Result<(), Failure> {
     let told = told_by_words(alloc)?;
-    is_wanted(alloc, 0, told.as_slice(), Some(REPLIES.as_bytes()), "2222220")
+    is_wanted(0, told.as_slice(), Some(REPLIES.as_bytes()), "2222220")
 }
 
 #[test]

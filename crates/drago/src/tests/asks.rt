@@ -6,9 +6,9 @@ const ASKS: &str = r#"
 > {"op":"peers","names":["a"]}
 < {"id":1,"peers":1}
 > {"op":"ask","peer":"a","left":"A","right":"A"}
-< {"from":"search","id":2,"pin":[0],"verdict":"yes"}
+< {"id":2,"pin":[0],"verdict":"yes"}
 > {"op":"ask","peer":"a","left":"A","right":"B"}
-< {"from":"search","id":3,"pin":[0],"verdict":"no"}
+< {"id":3,"pin":[0],"verdict":"no"}
 ---
 # A name is under those that the axioms lead to.
 > {"op":"peers","names":["a"]}
@@ -16,57 +16,57 @@ const ASKS: &str = r#"
 > {"op":"put","peer":"a","axioms":["(implies A B)","(implies B C)"]}
 < {"id":2,"put":"a","version":1}
 > {"op":"ask","peer":"a","left":"A","right":"C"}
-< {"from":"search","id":3,"pin":[1],"verdict":"yes"}
+< {"id":3,"pin":[1],"verdict":"yes"}
 > {"op":"ask","peer":"a","left":"A","right":"A"}
-< {"from":"search","id":4,"pin":[1],"verdict":"yes"}
+< {"id":4,"pin":[1],"verdict":"yes"}
 > {"op":"ask","peer":"a","left":"A","right":"D"}
-< {"from":"search","id":5,"pin":[1],"verdict":"no"}
+< {"id":5,"pin":[1],"verdict":"no"}
 > {"op":"ask","peer":"a","left":"D","right":"D"}
-< {"from":"search","id":6,"pin":[1],"verdict":"yes"}
+< {"id":6,"pin":[1],"verdict":"yes"}
 > {"op":"ask","peer":"a","left":"C","right":"A"}
-< {"from":"search","id":7,"pin":[1],"verdict":"no"}
+< {"id":7,"pin":[1],"verdict":"no"}
 ---
 > {"op":"peers","names":["a"]}
 < {"id":1,"peers":1}
 > {"op":"put","peer":"a","axioms":["(implies A B)","(implies B C)","(implies C A)"]}
 < {"id":2,"put":"a","version":1}
 > {"op":"ask","peer":"a","left":"C","right":"B"}
-< {"from":"search","id":3,"pin":[1],"verdict":"yes"}
+< {"id":3,"pin":[1],"verdict":"yes"}
 > {"op":"ask","peer":"a","left":"A","right":"D"}
-< {"from":"search","id":4,"pin":[1],"verdict":"no"}
+< {"id":4,"pin":[1],"verdict":"no"}
 ---
 > {"op":"peers","names":["a"]}
 < {"id":1,"peers":1}
 > {"op":"put","peer":"a","axioms":[]}
 < {"id":2,"put":"a","version":1}
 > {"op":"ask","peer":"a","left":"A","right":"B"}
-< {"from":"search","id":3,"pin":[1],"verdict":"no"}
+< {"id":3,"pin":[1],"verdict":"no"}
 ---
 # Any concepts are asked about. An interpretation may have no element, but top is not empty in each.
 > {"op":"peers","names":["a"]}
 < {"id":1,"peers":1}
 > {"op":"ask","peer":"a","left":"top","right":"bottom"}
-< {"from":"search","id":2,"pin":[0],"verdict":"no"}
+< {"id":2,"pin":[0],"verdict":"no"}
 > {"op":"ask","peer":"a","left":"bottom","right":"top"}
-< {"from":"search","id":3,"pin":[0],"verdict":"yes"}
+< {"id":3,"pin":[0],"verdict":"yes"}
 > {"op":"ask","peer":"a","left":"top","right":"top"}
-< {"from":"search","id":4,"pin":[0],"verdict":"yes"}
+< {"id":4,"pin":[0],"verdict":"yes"}
 > {"op":"ask","peer":"a","left":"bottom","right":"bottom"}
-< {"from":"search","id":5,"pin":[0],"verdict":"yes"}
+< {"id":5,"pin":[0],"verdict":"yes"}
 > {"op":"ask","peer":"a","left":"A","right":"top"}
-< {"from":"search","id":6,"pin":[0],"verdict":"yes"}
+< {"id":6,"pin":[0],"verdict":"yes"}
 > {"op":"ask","peer":"a","left":"A","right":"bottom"}
-< {"from":"search","id":7,"pin":[0],"verdict":"no"}
+< {"id":7,"pin":[0],"verdict":"no"}
 > {"op":"ask","peer":"a","left":"top","right":"A"}
-< {"from":"search","id":8,"pin":[0],"verdict":"no"}
+< {"id":8,"pin":[0],"verdict":"no"}
 > {"op":"ask","peer":"a","left":"bottom","right":"A"}
-< {"from":"search","id":9,"pin":[0],"verdict":"yes"}
+< {"id":9,"pin":[0],"verdict":"yes"}
 > {"op":"ask","peer":"a","left":"(some r (and A B))","right":"(some r A)"}
-< {"from":"search","id":10,"pin":[0],"verdict":"yes"}
+< {"id":10,"pin":[0],"verdict":"yes"}
 > {"op":"ask","peer":"a","left":"(and (some r A) (some r B))","right":"(some r (and A B))"}
-< {"from":"search","id":11,"pin":[0],"verdict":"no"}
+< {"id":11,"pin":[0],"verdict":"no"}
 > {"op":"ask","peer":"a","left":"(and (some r A) (all r B))","right":"(some r (and A B))"}
-< {"from":"search","id":12,"pin":[0],"verdict":"yes"}
+< {"id":12,"pin":[0],"verdict":"yes"}
 ---
 # Each element is one of two cases, and both lead to C.
 > {"op":"peers","names":["a"]}
@@ -74,11 +74,11 @@ const ASKS: &str = r#"
 > {"op":"put","peer":"a","axioms":["(implies top (or A B))","(implies A C)","(implies B C)"]}
 < {"id":2,"put":"a","version":1}
 > {"op":"ask","peer":"a","left":"top","right":"C"}
-< {"from":"search","id":3,"pin":[1],"verdict":"yes"}
+< {"id":3,"pin":[1],"verdict":"yes"}
 > {"op":"ask","peer":"a","left":"top","right":"A"}
-< {"from":"search","id":4,"pin":[1],"verdict":"no"}
+< {"id":4,"pin":[1],"verdict":"no"}
 > {"op":"ask","peer":"a","left":"(not A)","right":"B"}
-< {"from":"search","id":5,"pin":[1],"verdict":"yes"}
+< {"id":5,"pin":[1],"verdict":"yes"}
 ---
 # A role leads in a loop.
 > {"op":"peers","names":["a"]}
@@ -86,13 +86,13 @@ const ASKS: &str = r#"
 > {"op":"put","peer":"a","axioms":["(implies A (some r A))"]}
 < {"id":2,"put":"a","version":1}
 > {"op":"ask","peer":"a","left":"A","right":"bottom"}
-< {"from":"search","id":3,"pin":[1],"verdict":"no"}
+< {"id":3,"pin":[1],"verdict":"no"}
 > {"op":"ask","peer":"a","left":"A","right":"(some r (some r A))"}
-< {"from":"search","id":4,"pin":[1],"verdict":"yes"}
+< {"id":4,"pin":[1],"verdict":"yes"}
 > {"op":"ask","peer":"a","left":"A","right":"(all r A)"}
-< {"from":"search","id":5,"pin":[1],"verdict":"no"}
+< {"id":5,"pin":[1],"verdict":"no"}
 > {"op":"ask","peer":"a","left":"(all r bottom)","right":"(not A)"}
-< {"from":"search","id":6,"pin":[1],"verdict":"yes"}
+< {"id":6,"pin":[1],"verdict":"yes"}
 ---
 # Axioms that leave no element make every ask a yes.
 > {"op":"peers","names":["a"]}
@@ -100,9 +100,9 @@ const ASKS: &str = r#"
 > {"op":"put","peer":"a","axioms":["(implies top bottom)"]}
 < {"id":2,"put":"a","version":1}
 > {"op":"ask","peer":"a","left":"top","right":"bottom"}
-< {"from":"search","id":3,"pin":[1],"verdict":"yes"}
+< {"id":3,"pin":[1],"verdict":"yes"}
 > {"op":"ask","peer":"a","left":"A","right":"B"}
-< {"from":"search","id":4,"pin":[1],"verdict":"yes"}
+< {"id":4,"pin":[1],"verdict":"yes"}
 ---
 # An axiom that leaves none of A makes every ask about A a yes.
 > {"op":"peers","names":["a"]}
@@ -110,11 +110,11 @@ const ASKS: &str = r#"
 > {"op":"put","peer":"a","axioms":["(implies A B)","(implies A (not C))","(implies (and A B) (some r C))","(implies (some r C) bottom)"]}
 < {"id":2,"put":"a","version":1}
 > {"op":"ask","peer":"a","left":"A","right":"D"}
-< {"from":"search","id":3,"pin":[1],"verdict":"yes"}
+< {"id":3,"pin":[1],"verdict":"yes"}
 > {"op":"ask","peer":"a","left":"B","right":"D"}
-< {"from":"search","id":4,"pin":[1],"verdict":"no"}
+< {"id":4,"pin":[1],"verdict":"no"}
 > {"op":"ask","peer":"a","left":"top","right":"(all r (not C))"}
-< {"from":"search","id":5,"pin":[1],"verdict":"yes"}
+< {"id":5,"pin":[1],"verdict":"yes"}
 ---
 # An ask may be spent, and the next one is answered.
 > {"op":"peers","names":["a"]}
@@ -122,31 +122,27 @@ const ASKS: &str = r#"
 > {"op":"put","peer":"a","axioms":["(implies A (some r B))"]}
 < {"id":2,"put":"a","version":1}
 > {"op":"ask","peer":"a","left":"A","right":"C","expansions":1}
-< {"count":1,"from":"search","id":3,"peer":0,"pin":[1],"spent":"run","verdict":"spent"}
+< {"count":1,"id":3,"peer":0,"pin":[1],"spent":"run","verdict":"spent"}
 > {"op":"ask","peer":"a","left":"A","right":"C","expansions":200000}
-< {"from":"search","id":4,"pin":[1],"verdict":"no"}
+< {"id":4,"pin":[1],"verdict":"no"}
 > {"op":"ask","peer":"a","left":"A","right":"C"}
-< {"from":"search","id":5,"pin":[1],"verdict":"no"}
+< {"id":5,"pin":[1],"verdict":"no"}
 > {"op":"ask","peer":"a","left":"A","right":"(some r B)"}
-< {"from":"search","id":6,"pin":[1],"verdict":"yes"}
+< {"id":6,"pin":[1],"verdict":"yes"}
 ---
-# The peers are declared before all else, once.
+# One peer is declared before all else.
 > {"op":"peers","names":[]}
-< {"code":6,"error":"bad_peers","id":1}
-> {"op":"peers","names":["a","a"]}
-< {"code":6,"error":"bad_peers","id":2}
+< {"code":17,"error":"not_built","id":1}
+> {"op":"peers","names":["a","b"]}
+< {"code":17,"error":"not_built","id":2}
 > {"op":"peers","names":["top"]}
-< {"code":6,"error":"bad_peers","id":3}
+< {"code":17,"error":"not_built","id":3}
 > {"op":"put","peer":"a"}
-< {"code":4,"error":"no_peers","id":4}
+< {"code":17,"error":"not_built","id":4}
 > {"op":"ask","peer":"a","left":"A","right":"A"}
-< {"code":4,"error":"no_peers","id":5}
-> {"op":"check","peer":"a","left":"A","right":"A","pin":[],"cert":{}}
-< {"code":4,"error":"no_peers","id":6}
-> {"op":"versions"}
-< {"code":4,"error":"no_peers","id":7}
+< {"code":17,"error":"not_built","id":5}
 > {"op":"peers","names":["a"]}
-< {"id":8,"peers":1}
+< {"id":6,"peers":1}
 "#;
 
 #[test]

@@ -65,7 +65,7 @@ const LIMITS: &str = r#"
 > {"op":"check","peer":"a","left":"~100000*(not ~A~100000*)~","right":"(","pin":[0],"cert":{}}
 < {"code":3,"error":"bad_concept","id":3,"n":1}
 > {"op":"ask","peer":"a","left":"~63*(not ~A~63*)~","right":"B"}
-< {"from":"search","id":4,"pin":[0],"verdict":"no"}
+< {"id":4,"pin":[0],"verdict":"no"}
 > {"op":"ask","peer":"a","left":"~64*(not ~A~64*)~","right":"B"}
 < {"code":11,"error":"concept_limit","id":5,"n":0}
 > {"op":"ask","peer":"a","left":"B","right":"~100000*(not ~A~100000*)~"}
@@ -75,7 +75,7 @@ const LIMITS: &str = r#"
 > {"op":"peers","names":["a"]}
 < {"id":1,"peers":1}
 > {"op":"ask","peer":"a","left":"~30*(and ^31*(not ^A^31*)^ ~^9*(not ^A^9*)^~30*)~","right":"~30*(and ^31*(not ^A^31*)^ ~^9*(not ^A^9*)^~30*)~"}
-< {"from":"search","id":2,"pin":[0],"verdict":"yes"}
+< {"id":2,"pin":[0],"verdict":"yes"}
 > {"op":"ask","peer":"a","left":"~30*(and ^31*(not ^A^31*)^ ~^10*(not ^A^10*)^~30*)~","right":"A"}
 < {"code":11,"error":"concept_limit","id":3,"n":0}
 > {"op":"ask","peer":"a","left":"A","right":"~30*(and ^31*(not ^A^31*)^ ~^10*(not ^A^10*)^~30*)~"}
@@ -93,7 +93,7 @@ const LIMITS: &str = r#"
 > {"op":"put","peer":"a","axioms":["(implies A B)"~1998*,"(implies A C)"~,"(implies B D)"]}
 < {"id":5,"put":"a","version":1}
 > {"op":"ask","peer":"a","left":"A","right":"D"}
-< {"from":"search","id":6,"pin":[1],"verdict":"yes"}
+< {"id":6,"pin":[1],"verdict":"yes"}
 ---
 # A check with A, C and 65,535 further names has one too many, and no check leaves its names.
 > {"op":"peers","names":["a"]}
@@ -103,7 +103,7 @@ const LIMITS: &str = r#"
 > {"op":"check","peer":"a","left":"A","right":"C","pin":[0],"cert":{"format":1,"kind":"no","links":[],"locals":[{"roles":[],"size":1,"names":[["A",0]~65534*,["m#",0]~]}]}}
 < {"check":"valid","id":3}
 > {"op":"ask","peer":"a","left":"X","right":"Y"}
-< {"from":"search","id":4,"pin":[0],"verdict":"no"}
+< {"id":4,"pin":[0],"verdict":"no"}
 ---
 # A line has at most 1,048,576 bytes, and one of more is refused alone.
 > ~1048576* ~
@@ -132,7 +132,7 @@ const CLOSURES: &str = r#"
 > {"op":"ask","peer":"a","left":"~45*(and L# ~L~45*)~","right":"(or V (some r W))","expansions":0}
 < {"code":14,"error":"bad_budget","id":4}
 > {"op":"ask","peer":"a","left":"~45*(and L# ~L~45*)~","right":"(or V W)"}
-< {"from":"search","id":5,"pin":[1],"verdict":"no"}
+< {"id":5,"pin":[1],"verdict":"no"}
 "#;
 
 #[test]
