@@ -7,6 +7,7 @@ ghost use Rattle.dd_graph.specs.Goes.{Goes, IsBegun, IsFull, unfinished_at};
 use crate::expand::is_clear;
 use crate::kernel::{Advice, Kernel, Stop};
 use crate::node::{Entry, Node};
+use dd_set::{Bits, NoMemory};
 use std::alloc::Global;
 
 impl<'b> Kernel<'b> {
@@ -48,6 +49,44 @@ impl<'b> Kernel<'b> {
             return Ok(at);
         }
         Ok(id)
+    }
+
+    /// The number of an existential restriction of the label that asks for what cannot be, as far as this is seen at once.
+    pub(crate) fn dead_end(&self, alloc: Global, label: &Bits) -> Result<Option<u32>, NoMemory> {
+        if label.width() != self.table.width() {
+            return Ok(None);
+        }
+        let mut from = 0;
+        for _ in 0..self.compiled.count() {
+            let Some(n) = self.next_some(label, from) else {
+                return Ok(None);
+            };
+            let next = self.compiled.successor(alloc, label, n)?;
+            if self.is_dead_end(next) {
+                return Ok(Some(n));
+            }
+            from = n + 1;
+        }
+        Ok(None)
+    }
+
+    /// Whether the label is closed, or, where it was not met, clashes with what it forces or leads to a closed one.
+    fn is_dead_end(&self, label: Bits) -> bool {
+        if let Some(at) = self.table.find(&label) {
+            return self.rank(at).is_some();
+        }
+        let mut more = label;
+        if more.width() != self.table.width() {
+            return false;
+        }
+        self.saturate(&mut more);
+        if self.compiled.clash(&more).is_some() {
+            return true;
+        }
+        match self.table.find(&more) {
+            Some(at) => self.rank(at).is_some(),
+            None => false,
+        }
     }
 }
 

@@ -17,8 +17,6 @@ struct Pending {
     step: Step,
     from: usize,
     to: usize,
-    /// Whether the label has one of its leaves already.
-    met: bool,
 }
 
 /// An end of a nest of disjunctions that may still hold, and the addition of the step that it belongs to.
@@ -146,25 +144,8 @@ impl Order {
             self.add_leaves(kernel, label, Leaf { number, child })?;
         }
         let to = self.leaves.len();
-        let met = self.is_met(label, from, to);
-        self.pending.push(Pending {
-            step,
-            from,
-            to,
-            met,
-        })?;
+        self.pending.push(Pending { step, from, to })?;
         Ok(())
-    }
-
-    fn is_met(&self, label: &Bits, from: usize, to: usize) -> bool {
-        for k in from..to {
-            if let Some(leaf) = self.leaves.get(k) {
-                if label.contains(leaf.number) {
-                    return true;
-                }
-            }
-        }
-        false
     }
 
     /// Adds the ends of the addition's nest of disjunctions that may hold.
@@ -203,9 +184,7 @@ impl Order {
             let Some(step) = self.step(i) else {
                 break;
             };
-            if !step.met {
-                self.weigh_step(step);
-            }
+            self.weigh_step(step);
         }
         Ok(())
     }
@@ -239,7 +218,7 @@ impl Order {
             let Some(step) = self.step(i) else {
                 break;
             };
-            if size_of(step) <= least_of(&best) {
+            if step.to.saturating_sub(step.from) <= least_of(&best) {
                 best = better(best, self.choice_of(kernel, step));
             }
         }
@@ -264,7 +243,7 @@ impl Order {
         Choice {
             step: pending.step,
             child,
-            leaves: size_of(pending),
+            leaves: pending.to.saturating_sub(pending.from),
             score,
         }
     }
@@ -282,14 +261,6 @@ impl Order {
             None => 0,
         }
     }
-}
-
-/// How many leaves the step has. One that the label has a leaf of comes last.
-fn size_of(step: Pending) -> usize {
-    if step.met {
-        return usize::MAX;
-    }
-    step.to.saturating_sub(step.from)
 }
 
 fn least_of(best: &Option<Choice>) -> usize {

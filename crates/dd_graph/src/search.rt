@@ -116,7 +116,7 @@ impl<'b> Kernel<'b> {
                 };
                 let at = self.place(alloc, id, advice)?;
                 self.expand(alloc, at, advice)?;
-                match walk.settled(alloc, self, at) {
+                match walk.settled(self, at) {
                     Ok(()) => Ok(true),
                     Err(_) => Err(Stop::NoMemory),
                 }
@@ -135,7 +135,7 @@ impl<'b> Kernel<'b> {
         ensures left { IfOk result (λ o. IfSome o (λ id. unfinished_at self.new id ≡ true)) }
         ensures opened { result ≡ Ok None → open_at self.new.entries.items self.new.goal ≡ true }
     {
-        if let Some(id) = walk.next(alloc, self)? {
+        if let Some(id) = walk.next(self)? {
             if self.is_unfinished(id) {
                 return Ok(Some(id));
             }

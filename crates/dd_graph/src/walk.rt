@@ -3,9 +3,8 @@
 ghost use Rattle.dd_graph.specs.Goes.{Goes, IsBegun};
 
 use crate::kernel::{Advice, Kernel};
-use crate::nogood::Nogoods;
 use crate::order::Order;
-use dd_set::{Bits, NoMemory};
+use dd_set::NoMemory;
 use std::alloc::Global;
 
 /// The labels on the way from the goal to the one that is worked at, and who leads to a label.
@@ -20,9 +19,6 @@ pub(crate) struct Walk {
     /// Labels that were closed and whose leaders were not told.
     untold: Vec<u32>,
     order: Order,
-    nogoods: Nogoods,
-    /// What to do next at a label, where that was looked at.
-    advised: Option<(u32, Advice)>,
 }
 
 /// What the walk keeps of a label.
@@ -56,8 +52,6 @@ impl Walk {
             edges: Vec::new(alloc),
             untold: Vec::new(alloc),
             order: Order::new(alloc),
-            nogoods: Nogoods::new(alloc),
-            advised: None,
         }
     }
 
@@ -82,11 +76,7 @@ impl Walk {
     }
 
     /// The next label to work at, if the walk knows one.
-    pub(crate) fn next(
-        &mut self,
-        alloc: Global,
-        kernel: &Kernel<'_>,
-    ) -> Result<Option<u32>, NoMemory> {
+    pub(crate) fn next(&mut self, kernel: &Kernel<'_>) -> Result<Option<u32>, NoMemory> {
         if self.stack.is_empty() && !self.note(kernel.goal).seen {
             self.step_to(kernel.goal)?;
         }
@@ -95,59 +85,17 @@ impl Walk {
             let Some(id) = self.top() else {
                 return Ok(None);
             };
-            if self.turn_to(alloc, kernel, id)? {
-                return Ok(Some(id));
+            match self.next_child(kernel, id) {
+                Some(child) => self.step_to(child)?,
+                None => {
+                    if kernel.is_unfinished(id) {
+                        return Ok(Some(id));
+                    }
+                    self.step_back();
+                }
             }
         }
         Ok(None)
-    }
-
-    /// Steps on from the last label on the way, or tells that it is the next to work at.
-    fn turn_to(
-        &mut self,
-        alloc: Global,
-        kernel: &Kernel<'_>,
-        id: u32,
-    ) -> Result<bool, NoMemory> {
-        if let Some(child) = self.next_child(kernel, id) {
-            self.step_to(child)?;
-            return Ok(false);
-        }
-        if !kernel.is_unfinished(id) {
-            self.step_back();
-            return Ok(false);
-        }
-        match self.aside(alloc, kernel, id)? {
-            Some(at) => {
-                self.step_to(at)?;
-                Ok(false)
-            }
-            None => Ok(true),
-        }
-    }
-
-    /// What is to be closed before the label can be.
-    fn aside(
-        &mut self,
-        alloc: Global,
-        kernel: &Kernel<'_>,
-        id: u32,
-    ) -> Result<Option<u32>, NoMemory> {
-        let advice = self.look(alloc, kernel, id)?;
-        self.advised = Some((id, advice));
-        let Advice::Refute(n) = advice else {
-            return Ok(None);
-        };
-        let Some(label) = kernel.label_at(alloc, id)? else {
-            return Ok(None);
-        };
-        let Some(next) = kernel.asked(alloc, &label, n)? else {
-            return Ok(None);
-        };
-        match kernel.table.find(&next) {
-            Some(at) => Ok(self.unseen(kernel, at)),
-            None => Ok(None),
-        }
     }
 
     /// What to do at the label, where it is saturated.
@@ -157,29 +105,11 @@ impl Walk {
         kernel: &Kernel<'_>,
         id: u32,
     ) -> Result<Advice, NoMemory> {
-        if let Some((at, advice)) = self.advised {
-            self.advised = None;
-            if at == id {
-                return Ok(advice);
-            }
-        }
-        self.look(alloc, kernel, id)
-    }
-
-    fn look(
-        &mut self,
-        alloc: Global,
-        kernel: &Kernel<'_>,
-        id: u32,
-    ) -> Result<Advice, NoMemory> {
         let Some(label) = kernel.saturated_at(alloc, id)? else {
             return Ok(Advice::First);
         };
-        if let Some(n) = self.dead_end(alloc, kernel, &label)? {
+        if let Some(n) = kernel.dead_end(alloc, &label)? {
             return Ok(Advice::Refute(n));
-        }
-        if let Some(advice) = self.learned(alloc, kernel, &label)? {
-            return Ok(advice);
         }
         match self.order.choose(alloc, kernel, &label)? {
             Some(choice) => {
@@ -189,77 +119,6 @@ impl Walk {
                 Ok(Advice::Take(choice.step))
             }
             None => Ok(Advice::First),
-        }
-    }
-
-    /// The step that a closed label took whose part the label has, if it leads on.
-    fn learned(
-        &self,
-        alloc: Global,
-        kernel: &Kernel<'_>,
-        label: &Bits,
-    ) -> Result<Option<Advice>, NoMemory> {
-        let Some(advice) = self.nogoods.advice(kernel, label) else {
-            return Ok(None);
-        };
-        if let Advice::Refute(n) = advice {
-            let Some(next) = kernel.asked(alloc, label, n)? else {
-                return Ok(None);
-            };
-            if self.was_tried(kernel, &next) {
-                return Ok(None);
-            }
-        }
-        Ok(Some(advice))
-    }
-
-    /// Whether the label was looked at and is not closed.
-    fn was_tried(&self, kernel: &Kernel<'_>, label: &Bits) -> bool {
-        match kernel.table.find(label) {
-            Some(at) => kernel.rank(at).is_none() && self.unseen(kernel, at).is_none(),
-            None => false,
-        }
-    }
-
-    /// The number of an existential restriction of the label that asks for what cannot be, as far as this is seen at once.
-    fn dead_end(
-        &self,
-        alloc: Global,
-        kernel: &Kernel<'_>,
-        label: &Bits,
-    ) -> Result<Option<u32>, NoMemory> {
-        let mut from = 0u32;
-        for _ in 0..kernel.compiled.count() {
-            let Some(n) = kernel.next_restriction(label, from) else {
-                return Ok(None);
-            };
-            if let Some(next) = kernel.asked(alloc, label, n)? {
-                if self.is_dead_end(kernel, next) {
-                    return Ok(Some(n));
-                }
-            }
-            from = n.saturating_add(1);
-        }
-        Ok(None)
-    }
-
-    /// Whether the label is closed, or leads to what clashes, is closed, or has a part that no element can have.
-    fn is_dead_end(&self, kernel: &Kernel<'_>, label: Bits) -> bool {
-        if let Some(at) = kernel.table.find(&label) {
-            if kernel.rank(at).is_some() {
-                return true;
-            }
-        }
-        if self.was_tried(kernel, &label) {
-            return false;
-        }
-        let mut more = label;
-        if !kernel.is_fine(&mut more) || self.nogoods.find(&more).is_some() {
-            return true;
-        }
-        match kernel.table.find(&more) {
-            Some(at) => kernel.rank(at).is_some(),
-            None => false,
         }
     }
 
@@ -361,12 +220,7 @@ impl Walk {
     }
 
     /// A step was taken at the label: what was closed is told to the labels that lead to it.
-    pub(crate) fn settled(
-        &mut self,
-        alloc: Global,
-        kernel: &mut Kernel<'_>,
-        id: u32,
-    ) -> Result<(), NoMemory>
+    pub(crate) fn settled(&mut self, kernel: &mut Kernel<'_>, id: u32) -> Result<(), NoMemory>
         requires { IsBegun kernel.old }
         ensures { Goes kernel.old kernel.new }
     {
@@ -376,7 +230,7 @@ impl Walk {
             return Ok(());
         }
         self.untold.clear();
-        self.note_closed(alloc, kernel, id)?;
+        self.untold.push(id)?;
         let bound = kernel.table.len();
         let mut keep = self.stack.len();
         for _ in 0..bound {
@@ -384,21 +238,9 @@ impl Walk {
                 break;
             };
             keep = self.before(closed, keep);
-            self.tell(alloc, kernel, closed)?;
+            self.tell(kernel, closed)?;
         }
         self.cut(keep);
-        Ok(())
-    }
-
-    /// The label was closed, and those that lead to it are to be told.
-    fn note_closed(
-        &mut self,
-        alloc: Global,
-        kernel: &Kernel<'_>,
-        id: u32,
-    ) -> Result<(), NoMemory> {
-        self.nogoods.learn(alloc, kernel, id)?;
-        self.untold.push(id)?;
         Ok(())
     }
 
@@ -413,12 +255,7 @@ impl Walk {
     }
 
     /// Closes the labels that lead to this one, as far as they can be closed.
-    fn tell(
-        &mut self,
-        alloc: Global,
-        kernel: &mut Kernel<'_>,
-        closed: u32,
-    ) -> Result<(), NoMemory>
+    fn tell(&mut self, kernel: &mut Kernel<'_>, closed: u32) -> Result<(), NoMemory>
         requires { IsBegun kernel.old }
         ensures { Goes kernel.old kernel.new }
     {
@@ -429,7 +266,7 @@ impl Walk {
                 return Ok(());
             };
             if kernel.close(leader) {
-                self.note_closed(alloc, kernel, leader)?;
+                self.untold.push(leader)?;
             }
             edge = before;
         }

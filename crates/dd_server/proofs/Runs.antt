@@ -11,12 +11,12 @@ use Rattle.dd_lines.specs.declared.reader.LineStep.TheVariants as step
 use Rattle.dd_lines.proofs.Feeds.{ended_lines-feed, ended_lines-none}
 use Rattle.dd_wire.specs.Replies.{reply_text}
 use Rattle.dd_wire.specs.declared.reply.Reply.{Reply}
-use Rattle.dd_read.specs.declared.options.Options.{Options}
+use Rattle.dd_server.specs.declared.options.Options.{Options}
 use Rattle.dd_server.specs.Headline.{most_bytes, GivesAll, GivesFirst, GivesSome, WereRead, GivesRead, GivesWithin}
-use Rattle.dd_server.specs.Finish.{Entries}
-use Rattle.dd_server.specs.Session.{FinishesAt, Session, Standing, Through, opening, written}
-use Rattle.dd_server.specs.Turns.{BreaksOff, IsFinished, IsHalfFinished, IsLine, Turned}
+use Rattle.dd_server.specs.Session.{State, Standing, Through, opening, written}
+use Rattle.dd_server.specs.Turns.{IsLine, Turned, BreaksOff}
 use Rattle.dd_server.proofs.GoesOn.{through-turn, completes}
+use Rattle.dd_server.proofs.Turning.{between}
 
 -- ---- what is given
 
@@ -185,51 +185,16 @@ nothing_left r (Some xs) e = ap Some (tail r.held xs (inside e))
         cons : h ∷ (hs ++ xs) ≡ [] → ⊥
         cons e = cc e
 
--- the last window was finished at the end of the source
-module _ (o : Options) (input : List ℕ) (before given after : Option (List ℕ)) (space : ℕ) (at : Standing) (entries : Entries) (more : List Reply) where
-  all_lines : (now : Option (List ℕ)) → (reached : SoFar o input now before given space at) → reached.rest ≡ [] → lines_of input ≡ reached.lines
-  all_lines now reached none = reached.lines_are ∙ ap (λ (xs : List ℕ). reached.lines ++ lines_of xs) none ∙ append-nil reached.lines
-
-  last_session : (now : Option (List ℕ)) → (reached : SoFar o input now before given space at) → reached.rest ≡ [] → FinishesAt o at entries more → Session o input (reached.replies ++ more)
-  last_session now reached none finishes = (
-    at,
-    reached.replies,
-    entries,
-    more,
-    subst (λ (ls : List (List ℕ)). Through o opening ls at reached.replies) (sym (all_lines now reached none)) reached.through,
-    finishes,
-    refl,
-  )
-
-ends_with : (max : ℕ) (now later : Option (List ℕ)) (rest : List ℕ) (space less : ℕ) → now ≡ Some rest → Steps max step.End now later space less → (rest ≡ []) × (later ≡ Some [])
-ends_with max now later rest space less is h =
-    let e : Steps max step.End (Some rest) later space less = subst (λ (o : Option (List ℕ)). Steps max step.End o later space less) is h in
-    (e.2.0, e.1 ∙ ap Some e.2.1)
-
-pub done : (o : Options) (max : ℕ) (old now before given after left : Option (List ℕ)) (r : Reading) (space less : ℕ) (at : Standing) (entries : Entries)
-    → IsSoFar o old now before given space at → Steps max step.End now (ahead r left) space less → IsFinished o at entries given after
-    → IfSome old (λ input. (left ≡ Some []) × GivesAll o input before after)
-done o max None now before given after left r space less at entries reached h f = tt
-done o max (Some input) now before given after left r space less at entries reached h f =
-    let e = ends_with max now (ahead r left) reached.rest space less reached.is_ahead h in (
-      nothing_left r left e.1,
-      (
-        reached.replies ++ f.0,
-        last_session o input before given after space at entries f.0 now reached e.0 f.1,
-        subst (Gives before after) (sym (written-append reached.replies f.0)) (gives_both before given after (written reached.replies) (written f.0) reached.gives f.2),
-      ),
-    )
-
--- the sink failed while the last window was written
-pub broken_end : (o : Options) (max : ℕ) (old now later before given after : Option (List ℕ)) (space less : ℕ) (at : Standing) (entries : Entries)
-    → IsSoFar o old now before given space at → Steps max step.End now later space less → IsHalfFinished o at entries given after
-    → IfSome old (λ input. GivesSome o input before after)
-broken_end o max None now later before given after space less at entries reached h f = tt
-broken_end o max (Some input) now later before given after space less at entries reached h f =
-    let e = ends_with max now later reached.rest space less reached.is_ahead h in (
-      reached.replies ++ f.0,
-      last_session o input before given after space at entries f.0 now reached e.0 f.1,
-      subst (GivesFront before after) (sym (written-append reached.replies f.0)) (front_after before given after (written reached.replies) (written f.0) reached.gives f.2),
+pub done : (o : Options) (max : ℕ) (old now before given left : Option (List ℕ)) (r : Reading) (space less : ℕ) (s : State) (n : ℕ)
+    → IsSoFar o old now before given space (between s n) → Steps max step.End now (ahead r left) space less
+    → IfSome old (λ input. (left ≡ Some []) × GivesAll o input before given)
+done o max None now before given left r space less s n reached h = tt
+done o max (Some input) now before given left r space less s n reached h =
+    let ends : Steps max step.End (Some reached.rest) (ahead r left) space less = subst (λ (o : Option (List ℕ)). Steps max step.End o (ahead r left) space less) reached.is_ahead h in
+    let all : lines_of input ≡ reached.lines = reached.lines_are ∙ ap (λ (xs : List ℕ). reached.lines ++ lines_of xs) ends.2.0 ∙ append-nil reached.lines in
+    let through = subst (λ (ls : List (List ℕ)). Through o opening ls (between s n) reached.replies) (sym all) reached.through in (
+      nothing_left r left (ends.1 ∙ ap Some ends.2.1),
+      (reached.replies, (between s n, reached.replies, s, [], through, (refl, refl), sym (append-nil reached.replies)), reached.gives),
     )
 
 pub done_limit : (o : Options) (max : ℕ) (old now before given later : Option (List ℕ)) (space less : ℕ) (at : Standing)

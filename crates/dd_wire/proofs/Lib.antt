@@ -10,4 +10,3 @@ pub mod Tallies
 pub mod Readers
 pub mod Joining
 pub mod Answering
-pub mod Resolving

@@ -9,7 +9,6 @@ mod asks;
 mod certificates;
 mod checks;
 mod limits;
-mod made;
 mod refusals;
 mod transcript;
 mod words;

@@ -12,9 +12,9 @@ const UNREAD: &str = r#"
 > {"op":"check","peer":"a","left":"A","right":"C","pin":[],"cert":null}
 < {"code":18,"error":"bad_pin","id":4}
 > {"op":"check","peer":"a","left":"A","right":"C","pin":[0],"cert":{"kind":"yes"}}
-< {"code":17,"error":"not_built","id":5}
+< {"check":"unreadable","field":"format","id":5}
 > {"op":"check","peer":"a","left":"A","right":"C","pin":[1],"cert":{"format":1,"kind":"yes","lines":[]}}
-< {"code":17,"error":"not_built","id":6}
+< {"code":18,"error":"bad_pin","id":6}
 # The member that has another form is told.
 > {"op":"check","peer":"a","left":"A","right":"C","pin":[0],"cert":7}
 < {"check":"unreadable","field":"format","id":7}

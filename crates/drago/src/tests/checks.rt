@@ -104,3 +104,64 @@ const CHECKS: &str = r#"
 fn worlds_are_judged(rt: HostRuntime) -> Result<(), Failure> {
     follows(rt.alloc(), CHECKS)
 }
+
+/// Checks of derivations.
+const DERIVATIONS: &str = r#"
+# A derivation is judged line by line, and its last line has to say what is asked.
+> {"op":"peers","names":["a"]}
+< {"id":1,"peers":1}
+> {"op":"put","peer":"a","axioms":["(implies A B)","(implies B C)"]}
+< {"id":2,"put":"a","version":1}
+> {"op":"check","peer":"a","left":"A","right":"C","pin":[1],"cert":{"format":1,"kind":"yes","lines":[{"label":["A","(not A)"],"peer":0,"why":{"name":"A","rule":"clash"}},{"label":["B","(not B)"],"peer":0,"why":{"name":"B","rule":"clash"}},{"label":["C","(not C)"],"peer":0,"why":{"name":"C","rule":"clash"}},{"label":["B","(not C)"],"peer":0,"why":{"axiom":1,"left":1,"right":2,"rule":"axiom"}},{"label":["A","(not C)"],"peer":0,"why":{"axiom":0,"left":0,"right":3,"rule":"axiom"}}]}}
+< {"check":"valid","id":3}
+> {"op":"check","peer":"a","left":"A","right":"C","pin":[1],"cert":{"format":1,"kind":"yes","lines":[{"label":["A","(not A)"],"peer":0,"why":{"name":"A","rule":"clash"}},{"label":["B","(not B)"],"peer":0,"why":{"name":"B","rule":"clash"}},{"label":["C","(not C)"],"peer":0,"why":{"name":"C","rule":"clash"}},{"label":["B","(not C)"],"peer":0,"why":{"axiom":1,"left":1,"right":2,"rule":"axiom"}},{"label":["A","(not C)"],"peer":0,"why":{"axiom":0,"left":0,"right":2,"rule":"axiom"}}]}}
+< {"at":4,"check":"invalid","id":4}
+> {"op":"check","peer":"a","left":"A","right":"C","pin":[1],"cert":{"format":1,"kind":"yes","lines":[]}}
+< {"at":0,"check":"invalid","id":5}
+> {"op":"check","peer":"a","left":"A","right":"C","pin":[1],"cert":{"format":1,"kind":"yes","lines":[{"label":["A","(not A)"],"peer":0,"why":{"name":"A","rule":"clash"}},{"label":["B","(not B)"],"peer":0,"why":{"name":"B","rule":"clash"}},{"label":["C","(not C)"],"peer":0,"why":{"name":"C","rule":"clash"}},{"label":["B","(not C)"],"peer":0,"why":{"axiom":1,"left":1,"right":2,"rule":"axiom"}}]}}
+< {"at":4,"check":"invalid","id":6}
+> {"op":"check","peer":"a","left":"A","right":"B","pin":[1],"cert":{"format":1,"kind":"yes","lines":[{"label":["A","(not A)"],"peer":0,"why":{"name":"A","rule":"clash"}},{"label":["B","(not B)"],"peer":0,"why":{"name":"B","rule":"clash"}},{"label":["C","(not C)"],"peer":0,"why":{"name":"C","rule":"clash"}},{"label":["B","(not C)"],"peer":0,"why":{"axiom":1,"left":1,"right":2,"rule":"axiom"}},{"label":["A","(not C)"],"peer":0,"why":{"axiom":0,"left":0,"right":3,"rule":"axiom"}}]}}
+< {"at":5,"check":"invalid","id":7}
+> {"op":"check","peer":"a","left":"B","right":"C","pin":[1],"cert":{"format":1,"kind":"yes","lines":[{"label":["A","(not A)"],"peer":0,"why":{"name":"A","rule":"clash"}},{"label":["B","(not B)"],"peer":0,"why":{"name":"B","rule":"clash"}},{"label":["C","(not C)"],"peer":0,"why":{"name":"C","rule":"clash"}},{"label":["B","(not C)"],"peer":0,"why":{"axiom":1,"left":1,"right":2,"rule":"axiom"}}]}}
+< {"check":"valid","id":8}
+> {"op":"check","peer":"a","left":"A","right":"C","pin":[0],"cert":{"format":1,"kind":"yes","lines":[{"label":["A","(not A)"],"peer":0,"why":{"name":"A","rule":"clash"}},{"label":["B","(not B)"],"peer":0,"why":{"name":"B","rule":"clash"}},{"label":["C","(not C)"],"peer":0,"why":{"name":"C","rule":"clash"}},{"label":["B","(not C)"],"peer":0,"why":{"axiom":1,"left":1,"right":2,"rule":"axiom"}},{"label":["A","(not C)"],"peer":0,"why":{"axiom":0,"left":0,"right":3,"rule":"axiom"}}]}}
+< {"at":3,"check":"invalid","id":9}
+> {"op":"check","peer":"a","left":"A","right":"C","pin":[1],"cert":{"format":1,"kind":"yes","lines":[{"label":["A","(not A)"],"peer":0,"why":{"name":"A","rule":"clash"}},{"label":["B","(not B)"],"peer":0,"why":{"name":"B","rule":"clash"}},{"label":["C","(not C)"],"peer":0,"why":{"name":"C","rule":"clash"}},{"label":["B","(not C)"],"peer":0,"why":{"axiom":1,"left":1,"right":3,"rule":"axiom"}},{"label":["A","(not C)"],"peer":0,"why":{"axiom":0,"left":0,"right":3,"rule":"axiom"}}]}}
+< {"at":3,"check":"invalid","id":10}
+> {"op":"check","peer":"a","left":"A","right":"C","pin":[1],"cert":{"format":1,"kind":"yes","lines":[{"label":["A","(not A)"],"peer":1,"why":{"name":"A","rule":"clash"}},{"label":["B","(not B)"],"peer":0,"why":{"name":"B","rule":"clash"}},{"label":["C","(not C)"],"peer":0,"why":{"name":"C","rule":"clash"}},{"label":["B","(not C)"],"peer":0,"why":{"axiom":1,"left":1,"right":2,"rule":"axiom"}},{"label":["A","(not C)"],"peer":0,"why":{"axiom":0,"left":0,"right":3,"rule":"axiom"}}]}}
+< {"at":0,"check":"invalid","id":11}
+# A derivation may bring names of its own, and none of them stays.
+> {"op":"check","peer":"a","left":"A","right":"A","pin":[1],"cert":{"format":1,"kind":"yes","lines":[{"label":["A","(not A)"],"peer":0,"why":{"name":"A","rule":"clash"}},{"label":["X","(not X)"],"peer":0,"why":{"name":"X","rule":"clash"}},{"label":["A","(not A)","X"],"peer":0,"why":{"name":"A","rule":"clash"}},{"label":["A","(not A)"],"peer":0,"why":{"no":0,"on":"X","rule":"cut","yes":2}}]}}
+< {"check":"valid","id":12}
+# Roles and cases.
+> {"op":"check","peer":"a","left":"(some r (and A B))","right":"(some r A)","pin":[0],"cert":{"format":1,"kind":"yes","lines":[{"label":["(and A B)","(not A)","A","B"],"peer":0,"why":{"name":"A","rule":"clash"}},{"label":["(and A B)","(not A)"],"peer":0,"why":{"at":0,"cite":0,"rule":"and"}},{"label":["(some r (and A B))","(all r (not A))"],"peer":0,"why":{"at":0,"cite":1,"rule":"successor"}}]}}
+< {"check":"valid","id":13}
+> {"op":"check","peer":"a","left":"(some r (and A B))","right":"(some r A)","pin":[0],"cert":{"format":1,"kind":"yes","lines":[{"label":["(and A B)","(not A)","A","B"],"peer":0,"why":{"name":"A","rule":"clash"}},{"label":["(and A B)","(not A)"],"peer":0,"why":{"at":0,"cite":0,"rule":"and"}},{"label":["(some r (and A B))","(all r (not A))"],"peer":0,"why":{"at":1,"cite":1,"rule":"successor"}}]}}
+< {"at":2,"check":"invalid","id":14}
+> {"op":"check","peer":"a","left":"(or A B)","right":"(or A B)","pin":[0],"cert":{"format":1,"kind":"yes","lines":[{"label":["A","(not A)"],"peer":0,"why":{"name":"A","rule":"clash"}},{"label":["B","(not B)"],"peer":0,"why":{"name":"B","rule":"clash"}},{"label":["(or A B)","(and (not A) (not B))","(not A)","(not B)","A"],"peer":0,"why":{"name":"A","rule":"clash"}},{"label":["(or A B)","(and (not A) (not B))","(not A)","(not B)","B"],"peer":0,"why":{"name":"B","rule":"clash"}},{"label":["(or A B)","(and (not A) (not B))","(not A)","(not B)"],"peer":0,"why":{"at":0,"left":2,"right":3,"rule":"or"}},{"label":["(or A B)","(and (not A) (not B))"],"peer":0,"why":{"at":1,"cite":4,"rule":"and"}}]}}
+< {"check":"valid","id":15}
+> {"op":"check","peer":"a","left":"bottom","right":"A","pin":[0],"cert":{"format":1,"kind":"yes","lines":[{"label":["bottom"],"peer":0,"why":{"rule":"bottom"}}]}}
+< {"check":"valid","id":16}
+> {"op":"check","peer":"a","left":"A","right":"top","pin":[0],"cert":{"format":1,"kind":"yes","lines":[{"label":["bottom"],"peer":0,"why":{"rule":"bottom"}}]}}
+< {"check":"valid","id":17}
+> {"op":"check","peer":"a","left":"A","right":"bottom","pin":[0],"cert":{"format":1,"kind":"yes","lines":[{"label":["A"],"peer":0,"why":{"rule":"bottom"}}]}}
+< {"at":0,"check":"invalid","id":18}
+# Where a derivation stops to be a certificate, that is told.
+> {"op":"check","peer":"a","left":"A","right":"C","pin":[1],"cert":{"format":1,"kind":"yes","lines":[{"label":["A","(not A)"],"peer":0,"why":{"name":"A","rule":"clash"}},{"label":["B","(not B)"],"peer":0,"why":{"name":"B","rule":"clash"}},{"label":["C","(not C)"],"peer":0,"why":{"name":"C","rule":"clash"}},{"label":["B","(not C)"],"peer":0,"why":{"axiom":1,"left":1,"right":2,"rule":"axiom"}},{"label":["A","(not C)"],"peer":0,"why":{"axiom":0,"left":0,"right":3,"rule":"axiom"}}],"note":0}}
+< {"check":"unreadable","field":"kind","id":19}
+> {"op":"check","peer":"a","left":"A","right":"C","pin":[1],"cert":{"format":1,"kind":"yes"}}
+< {"check":"unreadable","field":"lines","id":20}
+> {"op":"check","peer":"a","left":"A","right":"C","pin":[1],"cert":{"format":1,"kind":"yes","lines":[{"label":["A","(not A"],"peer":0,"why":{"name":"A","rule":"clash"}}]}}
+< {"check":"unreadable","id":21,"text":1}
+> {"op":"check","peer":"a","left":"A","right":"C","pin":[1],"cert":{"format":1,"kind":"yes","lines":[{"label":["A","(not A)"],"peer":0,"why":{"name":"not","rule":"clash"}}]}}
+< {"check":"unreadable","id":22,"text":2}
+> {"op":"check","peer":"a","left":"A","right":"C","pin":[1],"cert":{"format":1,"kind":"yes","lines":[{"label":["A","(not A)"],"peer":4294967296,"why":{"name":"A","rule":"clash"}}]}}
+< {"check":"unreadable","id":23,"place":0,"value":4294967296}
+> {"op":"ask","peer":"a","left":"A","right":"C"}
+< {"id":24,"pin":[1],"verdict":"yes"}
+"#;
+
+#[test]
+fn derivations_are_judged(rt: HostRuntime) -> Result<(), Failure> {
+    follows(rt.alloc(), DERIVATIONS)
+}

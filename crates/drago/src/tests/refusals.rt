@@ -106,7 +106,7 @@ const REFUSED: &str = r#"
 > {"op":"check","peer":"b","left":"A","right":"C","pin":[1],"cert":{}}
 < {"code":17,"error":"not_built","id":50}
 > {"op":"check","peer":"a","left":"(","right":"C","pin":[],"cert":{"kind":"yes"}}
-< {"code":17,"error":"not_built","id":51}
+< {"code":3,"error":"bad_concept","id":51,"n":0}
 > {"op":"ask","peer":"a","left":"A","right":"C"}
 < {"id":52,"pin":[1],"verdict":"yes"}
 # A value of no form is refused.

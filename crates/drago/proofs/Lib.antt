@@ -1,4 +1,0 @@
-pub mod Commands
-pub mod Cut
-pub mod Drilling
-pub mod Giving
