@@ -10,3 +10,4 @@ pub mod Tallies
 pub mod Readers
 pub mod Joining
 pub mod Answering
+pub mod Resolving

@@ -1,7 +1,6 @@
 pub mod Refusal
 pub mod Forms
 pub mod Lines
-pub mod Accepted
 pub mod Placed
 pub mod Texts
 pub mod Requests

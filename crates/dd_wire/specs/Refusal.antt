@@ -42,9 +42,6 @@ bad_json = 1
 abbrev pub bad_shape : ℕ
 bad_shape = 2
 
-abbrev pub not_built : ℕ
-not_built = 17
-
 abbrev pub no_peers : ℕ
 no_peers = 4
 
@@ -78,6 +75,9 @@ too_many_axioms = 9
 abbrev pub too_many_rules : ℕ
 too_many_rules = 10
 
+abbrev pub versions_full : ℕ
+versions_full = 13
+
 abbrev pub bad_budget : ℕ
 bad_budget = 14
 
@@ -93,7 +93,6 @@ error_name code =
     if code == line_too_long then codes "line_too_long"
     else if code == bad_json then codes "bad_json"
     else if code == bad_shape then codes "bad_shape"
-    else if code == not_built then codes "not_built"
     else if code == no_peers then codes "no_peers"
     else if code == peers_twice then codes "peers_twice"
     else if code == bad_peers then codes "bad_peers"
@@ -105,6 +104,7 @@ error_name code =
     else if code == unknown_source then codes "unknown_source"
     else if code == too_many_axioms then codes "too_many_axioms"
     else if code == too_many_rules then codes "too_many_rules"
+    else if code == versions_full then codes "versions_full"
     else if code == bad_budget then codes "bad_budget"
     else if code == closure_full then codes "closure_full"
     else if code == bad_pin then codes "bad_pin"

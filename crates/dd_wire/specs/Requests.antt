@@ -1,10 +1,13 @@
 -- What a request asks for: its peers, names and roles are numbers.
-use Rattle.std.specs.Prelude.{◌≡◌, ℕ, Bool, List, [], map, if◌then◌else◌, Option, unwrap_or, Result, Ok, Err, ⊤}
+use Rattle.std.specs.Prelude.{◌≡◌, ℕ, Bool, true, List, [], ◌∷◌, ◌++◌, All, map, flat_map, if◌then◌else◌, Option, unwrap_or, Result, Ok, Err, ⊤}
 use Rattle.serde_json.specs.View.{view}
 use Rattle.serde_json.specs.declared.value.Value.{Value}
+use Rattle.dd_concept.specs.declared.concept.Axiom.{Axiom}
+use Rattle.dd_concept.specs.declared.concept.Concept.{Concept}
 use Rattle.dd_text.specs.Grammar.{Term}
+use Rattle.dd_text.specs.Reads.{IsSmall, request_limits}
 use Rattle.dd_text.specs.Symbols.{SymbolLists, has_text, number_of}
-use Rattle.dd_text.specs.Text.{axiom_of, concept_of}
+use Rattle.dd_text.specs.Text.{axiom_of, concept_of, has_symbols}
 use Rattle.dd_peer.specs.declared.version.PeerVersion.{PeerVersion}
 use Rattle.dd_peer.specs.declared.version.Query.{Query}
 use Rattle.dd_peer.specs.declared.version.Rule.{Rule}
@@ -13,11 +16,10 @@ use Rattle.dd_wire.specs.declared.request.Request.{Request}
 use Rattle.dd_wire.specs.declared.request.Request.TheVariants as request
 use Rattle.dd_wire.specs.declared.request.WireErr.{WireErr}
 use Rattle.dd_wire.specs.declared.request.WireErr.TheVariants.{Code, NoMemory}
-use Rattle.dd_wire.specs.Accepted.{is_accepted}
 use Rattle.dd_wire.specs.Forms.{Written}
 use Rattle.dd_wire.specs.Lines.{form_in}
 use Rattle.dd_wire.specs.Placed.{placed}
-use Rattle.dd_wire.specs.Refusal.{Tested, ◌>>=◌, demand, not_built}
+use Rattle.dd_wire.specs.Refusal.{Tested}
 use Rattle.dd_wire.specs.Texts.{Parsed, RuleTree, peers, put, ask, check, versions, Parse, IsParse, Resolved, sized_texts}
 
 -- ---- numbers
@@ -62,13 +64,9 @@ abbrev pub AfterForm : Tested Written → Option (List (List ℕ)) → SymbolLis
 AfterForm (Err e) names old found = found ≡ Err e
 AfterForm (Ok w) names old found = Tests names old w found
 
--- the form of a line, where it is accepted
-abbrev pub accepted_form : Option (List (List ℕ)) → List ℕ → Tested Written
-accepted_form names line = form_in line >>= (λ w. demand not_built (is_accepted names w) >>= (λ is. Ok w))
-
--- what the tests of a line find
+-- what the tests of a line find: those of its form come before those of its peers and texts
 abbrev pub TestsLine : Option (List (List ℕ)) → SymbolLists → List ℕ → Tested Resolved → Type 0
-TestsLine names old line found = AfterForm (accepted_form names line) names old found
+TestsLine names old line found = AfterForm (form_in line) names old found
 
 -- ---- what is answered
 
@@ -82,6 +80,35 @@ ReadsRequest Finds names old new (Err NoMemory) = new ≡ old
 -- the declared names, none where there are none yet
 abbrev pub declared_names : Option (List (List ℕ)) → List (List ℕ)
 declared_names names = unwrap_or names []
+
+-- ---- what holds of every request
+
+-- the two concepts of an axiom, and of a rule
+abbrev pub sides_in : Axiom → List Concept
+sides_in a = a.left ∷ a.right ∷ []
+
+abbrev pub sides_by : Rule → List Concept
+sides_by r = r.source ∷ r.target ∷ []
+
+-- the concepts of a version, as they stand there, and those of a query
+abbrev pub concepts_of : PeerVersion → List Concept
+concepts_of v = flat_map sides_in v.axioms ++ flat_map sides_by (v.into ++ v.onto)
+
+abbrev pub concepts_in : Query → List Concept
+concepts_in q = q.left ∷ q.right ∷ []
+
+-- the names and the roles of the concept are among the symbols, and it is within the limits of requests
+pub record IsWritten (s : SymbolLists) (c : Concept) : Type 0 where
+  pub named : has_symbols s c ≡ true
+  pub small : IsSmall request_limits c
+
+-- all concepts of the request are written with the symbols
+abbrev pub IsWrittenRequest : SymbolLists → Request → Type 0
+IsWrittenRequest s (request.Peers names) = ⊤
+IsWrittenRequest s (request.Put peer v) = All (IsWritten s) (concepts_of v)
+IsWrittenRequest s (request.Ask q expansions verdicts) = All (IsWritten s) (concepts_in q)
+IsWrittenRequest s (request.Check q pin cert) = All (IsWritten s) (concepts_in q)
+IsWrittenRequest s request.Versions = ⊤
 
 -- the version of a put can be numbered
 abbrev pub IsNumberedRequest : Request → Type 0

@@ -5,7 +5,8 @@ use Rattle.serde_json.specs.Data.{Data, string, Members, no_members, member}
 use Rattle.dd_json.specs.Members.{◌>>=◌, text_at, maybe_number_at, presence, sized}
 use Rattle.dd_wire.specs.declared.form.RuleForm.{RuleForm}
 use Rattle.dd_wire.specs.Forms.{rules_at}
-use Rattle.dd_wire.specs.Replies.{whole_number, numbers}
+use Rattle.dd_wire.specs.Replies.{whole_number, numbers, origin_name}
+use Rattle.dd_wire.specs.declared.reply.Origin.{Origin}
 
 -- three members that are strings
 unfoldable pub three_texts_at : List ℕ → List ℕ → List ℕ → Data → Option (List ℕ × List ℕ × List ℕ)
@@ -36,9 +37,14 @@ put_maybe key None ms = ms
 put_maybe key (Some n) ms = member_put key (whole_number n) ms
 
 -- the members of a reply to an ask with this verdict
-abbrev pub ask_members : ℕ → List ℕ → List ℕ → Members
-ask_members id pin verdict = member (codes "id") (whole_number id) (member (codes "pin") (numbers pin)
-    (member (codes "verdict") (string verdict) no_members))
+abbrev pub ask_members : ℕ → Origin → List ℕ → List ℕ → Members
+ask_members id from pin verdict = member (codes "from") (string (origin_name from)) (member (codes "id") (whole_number id)
+    (member (codes "pin") (numbers pin) (member (codes "verdict") (string verdict) no_members)))
+
+-- the same where something was spent
+abbrev pub spent_members : ℕ → Origin → List ℕ → List ℕ → Members
+spent_members id from pin what = member (codes "from") (string (origin_name from)) (member (codes "id") (whole_number id)
+    (member (codes "pin") (numbers pin) (member (codes "spent") (string what) (member (codes "verdict") (string (codes "spent")) no_members))))
 
 -- the members of a reply to a check with this outcome, to the request with this number
 abbrev pub outcome_members : List ℕ → ℕ → Members

@@ -10,9 +10,6 @@ pub const BAD_JSON: u8 = 1;
 /// The JSON value has none of the forms of a request.
 pub const BAD_SHAPE: u8 = 2;
 
-/// The request has a form that is not accepted so far.
-pub const NOT_BUILT: u8 = 17;
-
 /// No peers were declared before.
 pub const NO_PEERS: u8 = 4;
 
@@ -46,6 +43,9 @@ pub const TOO_MANY_AXIOMS: u8 = 9;
 /// A version has too many rules of one kind from one peer.
 pub const TOO_MANY_RULES: u8 = 10;
 
+/// There are as many accepted puts as there may be.
+pub const VERSIONS_FULL: u8 = 13;
+
 /// An ask's budget is out of its range.
 pub const BAD_BUDGET: u8 = 14;
 
@@ -63,7 +63,6 @@ pub fn name_of(code: u8) -> &'static str
         LINE_TOO_LONG => "line_too_long",
         BAD_JSON => "bad_json",
         BAD_SHAPE => "bad_shape",
-        NOT_BUILT => "not_built",
         NO_PEERS => "no_peers",
         PEERS_TWICE => "peers_twice",
         BAD_PEERS => "bad_peers",
@@ -75,6 +74,7 @@ pub fn name_of(code: u8) -> &'static str
         UNKNOWN_SOURCE => "unknown_source",
         TOO_MANY_AXIOMS => "too_many_axioms",
         TOO_MANY_RULES => "too_many_rules",
+        VERSIONS_FULL => "versions_full",
         BAD_BUDGET => "bad_budget",
         CLOSURE_FULL => "closure_full",
         BAD_PIN => "bad_pin",

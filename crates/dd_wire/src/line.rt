@@ -1,12 +1,12 @@
 ghost use Rattle.std.specs.Prelude.{◌≡◌, Ok, IfOk, IfErr, option_map};
 ghost use Rattle.std.specs.Option.{option_copied};
 ghost use Rattle.serde_json.specs.View.{view};
+ghost use Rattle.dd_text.specs.Symbols.{Grows};
 ghost use Rattle.dd_wire.specs.Forms.{written_of};
 ghost use Rattle.dd_wire.specs.Lines.{json_of, form_in, IsRefused};
-ghost use Rattle.dd_wire.specs.Requests.{ReadsRequest, TestsLine, accepted_form, declared_names, IsNumberedRequest};
+ghost use Rattle.dd_wire.specs.Requests.{ReadsRequest, TestsLine, declared_names, IsNumberedRequest, IsWrittenRequest};
 
-use crate::accept::is_accepted_form;
-use crate::code::{BAD_JSON, BAD_SHAPE, NOT_BUILT};
+use crate::code::{BAD_JSON, BAD_SHAPE};
 use crate::form::{Form, form_at};
 use crate::lookup::resolve;
 use crate::names::Names;
@@ -20,7 +20,7 @@ use std::alloc::Global;
 /// The form of a line, which is given without its line feed: `BAD_JSON` where it is no JSON value, and `BAD_SHAPE` where
 /// the value has none of the forms of a request. `NoMemory` may come on any line.
 #[tactic(auto, unfolding(crate::specs::Lines::form_in))]
-pub fn read_form(alloc: Global, line: &[u8]) -> Result<Form, WireErr>
+fn read_form(alloc: Global, line: &[u8]) -> Result<Form, WireErr>
     ensures ok { IfOk result (λ form. form_in line.now ≡ Ok (written_of form)) }
     ensures refused { IfErr result (λ e. IsRefused e (form_in line.now)) }
 {
@@ -57,8 +57,11 @@ fn value_of(alloc: Global, line: &[u8]) -> Result<Option<Value>, NoMemory>
     }
 }
 
-/// The request of a line. It is refused by the first test that fails: those of `read_form`, `NOT_BUILT` where the form is
-/// not accepted so far, and those of `resolve`. After a refusal the symbols are as before.
+/// The request of a line, which is given without its line feed.
+///
+/// It is refused by the first test that fails, in this order: `BAD_JSON`, `BAD_SHAPE`; `NO_PEERS`, `PEERS_TWICE`,
+/// `BAD_PEERS`, `UNKNOWN_PEER`; `BAD_CONCEPT` and `CONCEPT_LIMIT`, each with the number of the first such text; and
+/// `SYMBOLS_FULL`. After a refusal the symbols are as before.
 pub fn read_request(
     alloc: Global,
     symbols: &mut Symbols,
@@ -67,20 +70,9 @@ pub fn read_request(
 ) -> Result<Request, WireErr>
     ensures reads { ReadsRequest (TestsLine (option_copied names.entry) symbols.old line.now) (declared_names (option_copied names.entry)) symbols.old symbols.new result }
     ensures numbered { IfOk result IsNumberedRequest }
-{
-    let form = read_accepted(alloc, names, line)?;
-    resolve(alloc, symbols, names, form)
-}
-
-fn read_accepted(alloc: Global, names: Option<&Names>, line: &[u8]) -> Result<Form, WireErr>
-    ensures ok { IfOk result (λ form. accepted_form (option_copied names.entry) line.now ≡ Ok (written_of form)) }
-    ensures refused { IfErr result (λ e. IsRefused e (accepted_form (option_copied names.entry) line.now)) }
+    ensures written { IfOk result (IsWrittenRequest symbols.new) }
+    ensures grows { Grows symbols.old symbols.new }
 {
     let form = read_form(alloc, line)?;
-    if is_accepted_form(names, &form) {
-        Ok(form)
-    } else {
-        drop(form);
-        Err(refusal(NOT_BUILT))
-    }
+    resolve(alloc, symbols, names, form)
 }

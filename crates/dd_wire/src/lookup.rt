@@ -4,11 +4,11 @@ ghost use Rattle.std.specs.Option.{option_copied};
 ghost use Rattle.dd_wire.specs.Forms.{written_of};
 ghost use Rattle.dd_wire.specs.Placed.{are_distinct, are_peers};
 ghost use Rattle.dd_text.specs.Names.{names_a_thing};
-ghost use Rattle.dd_text.specs.Symbols.{SymbolLists, has_text};
+ghost use Rattle.dd_text.specs.Symbols.{Grows, SymbolLists, has_text};
 ghost use Rattle.dd_wire.specs.Forms.{peers, put, versions};
 ghost use Rattle.dd_wire.specs.Texts.{has_room};
 ghost use Rattle.dd_wire.specs.Progress.{IsPeer, ReadsOn, ReadsQuery, asked, checked};
-ghost use Rattle.dd_wire.specs.Requests.{ReadsRequest, Tests, declared_names, IsNumberedRequest};
+ghost use Rattle.dd_wire.specs.Requests.{ReadsRequest, Tests, declared_names, IsNumberedRequest, IsWrittenRequest};
 
 use crate::code::{BAD_PEERS, NO_PEERS, PEERS_TWICE, UNKNOWN_PEER};
 use crate::form::{Form, RuleForm};
@@ -36,6 +36,8 @@ pub fn resolve(
 ) -> Result<Request, WireErr>
     ensures reads { ReadsRequest (Tests (option_copied names.entry) symbols.old (written_of form)) (declared_names (option_copied names.entry)) symbols.old symbols.new result }
     ensures numbered { IfOk result IsNumberedRequest }
+    ensures written { IfOk result (IsWrittenRequest symbols.new) }
+    ensures grows { Grows symbols.old symbols.new }
 {
     let mark = symbols.mark();
     match request_of(alloc, symbols, names, form) {

@@ -2,11 +2,11 @@ ghost use Rattle.std.specs.Prelude.{◌≡◌, IfOk, IsTrue, codes};
 ghost use Rattle.serde_json.specs.Data.{put, string, object, member, no_members};
 ghost use Rattle.serde_json.specs.View.{view, members_view};
 ghost use Rattle.dd_text.specs.Names.{names_a_thing};
-ghost use Rattle.dd_wire.specs.Replies.{numbers, whole_number, verdict_name, verdict_data, spent_data, unread_number, unread_text, placed_fault, fault_data, unread_data, reply_data, reply_text, IsPrintable};
-ghost use Rattle.dd_wire.specs.Steps.{put_maybe, ask_members, outcome_members};
+ghost use Rattle.dd_wire.specs.Replies.{numbers, whole_number, verdict_name, origin_name, decided_data, run_data, verdicts_data, memory_data, unread_number, unread_text, placed_fault, fault_data, unread_data, reply_data, reply_text, IsPrintable};
+ghost use Rattle.dd_wire.specs.Steps.{put_maybe, ask_members, spent_members, outcome_members};
 
 use crate::code::name_of;
-use crate::reply::{BadWorld, Reply, Unread};
+use crate::reply::{BadWorld, Origin, Reply, Unread};
 use dd_concept::NoMemory;
 use dd_peer::Pin;
 use serde_json::{Map, Value, put};
@@ -30,18 +30,32 @@ fn value_of(alloc: Global, reply: &Reply) -> Result<Value, NoMemory>
         Reply::Refused { id, code, n } => refused(alloc, *id, *code, *n),
         Reply::Peers { id, count } => peers(alloc, *id, *count),
         Reply::Put { id, put, version } => stored(alloc, *id, put.as_slice(), *version),
-        Reply::Decided { id, yes, pin } => asked(alloc, *id, pin, verdict(*yes)),
+        Reply::Decided {
+            id,
+            yes,
+            from,
+            pin,
+            cert,
+        } => decided(alloc, *id, *yes, from, pin, cert),
         Reply::RunSpent {
             id,
             count,
             peer,
+            from,
             pin,
-        } => run_spent(alloc, *id, *count, *peer, pin),
-        Reply::Memory { id, pin } => asked(alloc, *id, pin, "memory"),
+        } => run_spent(alloc, *id, *count, *peer, from, pin),
+        Reply::VerdictsSpent {
+            id,
+            count,
+            from,
+            pin,
+        } => verdicts_spent(alloc, *id, *count, from, pin),
+        Reply::Memory { id, from, pin } => memory(alloc, *id, from, pin),
         Reply::Valid { id } => valid(alloc, *id),
         Reply::InvalidLines { id, at } => invalid_lines(alloc, *id, *at),
         Reply::InvalidWorld { id, fault } => invalid(alloc, *id, fault),
         Reply::Unreadable { id, what } => unreadable(alloc, *id, what),
+        Reply::Versions { id, versions } => versions_of(alloc, *id, versions),
     }
 }
 
@@ -92,21 +106,75 @@ fn name_text(name: &[u8]) -> &str
     }
 }
 
-/// The reply to an ask, with this verdict.
-fn asked(alloc: Global, id: u64, pin: &Pin, verdict: &str) -> Result<Value, NoMemory>
-    ensures { IfOk result (λ value. view value ≡ verdict_data id pin.now.versions verdict.now) }
+fn decided(
+    alloc: Global,
+    id: u64,
+    yes: bool,
+    from: &Origin,
+    pin: &Pin,
+    cert: &Value,
+) -> Result<Value, NoMemory>
+    ensures { IfOk result (λ value. view value ≡ decided_data id (verdict_name yes) from.now pin.now.versions (view cert.now)) }
 {
-    let reply = of_ask(alloc, id, pin, verdict)?;
+    let reply = of_ask(alloc, id, from, pin, verdict(yes))?;
+    with_copy(alloc, reply, "cert", cert)
+}
+
+/// The reply with these members, and with one more that is copied.
+fn with_copy(
+    alloc: Global,
+    reply: Map<String, Value>,
+    name: &str,
+    value: &Value,
+) -> Result<Value, NoMemory>
+    ensures { IfOk result (λ new. view new ≡ object (put name.now (view value.now) (members_view reply.entries))) }
+{
+    let copy = value.clone()?;
+    Ok(Value::Object(with(alloc, reply, name, copy)?))
+}
+
+fn run_spent(
+    alloc: Global,
+    id: u64,
+    count: u64,
+    peer: u32,
+    from: &Origin,
+    pin: &Pin,
+) -> Result<Value, NoMemory>
+    ensures { IfOk result (λ value. view value ≡ run_data id count peer from.now pin.now.versions) }
+{
+    let reply = spent(alloc, id, from, pin, "run")?;
+    let reply = with(alloc, reply, "count", Value::from(count))?;
+    let reply = with(alloc, reply, "peer", Value::from(peer))?;
     Ok(Value::Object(reply))
 }
 
-fn run_spent(alloc: Global, id: u64, count: u64, peer: u32, pin: &Pin) -> Result<Value, NoMemory>
-    ensures { IfOk result (λ value. view value ≡ spent_data id pin.now.versions count peer) }
+fn verdicts_spent(
+    alloc: Global,
+    id: u64,
+    count: u64,
+    from: &Origin,
+    pin: &Pin,
+) -> Result<Value, NoMemory>
+    ensures { IfOk result (λ value. view value ≡ verdicts_data id count from.now pin.now.versions) }
 {
-    let reply = of_ask(alloc, id, pin, "spent")?;
+    let reply = spent(alloc, id, from, pin, "verdicts")?;
     let reply = with(alloc, reply, "count", Value::from(count))?;
-    let reply = with(alloc, reply, "peer", Value::from(peer))?;
-    let reply = with_text(alloc, reply, "spent", "run")?;
+    Ok(Value::Object(reply))
+}
+
+fn memory(alloc: Global, id: u64, from: &Origin, pin: &Pin) -> Result<Value, NoMemory>
+    ensures { IfOk result (λ value. view value ≡ memory_data id from.now pin.now.versions) }
+{
+    let reply = of_ask(alloc, id, from, pin, "memory")?;
+    Ok(Value::Object(reply))
+}
+
+fn versions_of(alloc: Global, id: u64, versions: &Pin) -> Result<Value, NoMemory>
+    ensures { IfOk result (λ value. view value ≡ reply_data (Reply.Versions id versions.now)) }
+{
+    let reply = of_request(alloc, id)?;
+    let reply = with_numbers(alloc, reply, "versions", versions.versions.as_slice())?;
     Ok(Value::Object(reply))
 }
 
@@ -203,12 +271,42 @@ fn of_request(alloc: Global, id: u64) -> Result<Map<String, Value>, NoMemory>
 }
 
 /// The members of a reply to an ask, with this verdict.
-fn of_ask(alloc: Global, id: u64, pin: &Pin, verdict: &str) -> Result<Map<String, Value>, NoMemory>
-    ensures { IfOk result (λ new. members_view new.entries ≡ ask_members id pin.now.versions verdict.now) }
+fn of_ask(
+    alloc: Global,
+    id: u64,
+    from: &Origin,
+    pin: &Pin,
+    verdict: &str,
+) -> Result<Map<String, Value>, NoMemory>
+    ensures { IfOk result (λ new. members_view new.entries ≡ ask_members id from.now pin.now.versions verdict.now) }
 {
     let reply = of_request(alloc, id)?;
+    let reply = with_text(alloc, reply, "from", origin(from))?;
     let reply = with_numbers(alloc, reply, "pin", pin.versions.as_slice())?;
     with_text(alloc, reply, "verdict", verdict)
+}
+
+/// The members of a reply to an ask, where this was spent.
+fn spent(
+    alloc: Global,
+    id: u64,
+    from: &Origin,
+    pin: &Pin,
+    what: &str,
+) -> Result<Map<String, Value>, NoMemory>
+    ensures { IfOk result (λ new. members_view new.entries ≡ spent_members id from.now pin.now.versions what.now) }
+{
+    let reply = of_ask(alloc, id, from, pin, "spent")?;
+    with_text(alloc, reply, "spent", what)
+}
+
+fn origin(from: &Origin) -> &'static str
+    ensures { result.now ≡ origin_name from.now }
+{
+    match from {
+        Origin::Search => "search",
+        Origin::Cache => "cache",
+    }
 }
 
 /// The members of a reply to a check.

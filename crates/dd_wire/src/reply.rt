@@ -1,6 +1,16 @@
 use dd_concept::Items;
 use dd_json::Text;
 use dd_peer::Pin;
+use serde_json::Value;
+
+/// Where the answer to an ask comes from.
+#[derive(Drop)]
+pub enum Origin {
+    /// It was searched for.
+    Search,
+    /// It was kept from an ask before.
+    Cache,
+}
 
 /// Why a world is no countermodel. Peers are numbered in declared order, and axioms and rules in their lists, from 0.
 #[derive(Drop)]
@@ -23,7 +33,7 @@ pub enum Unread {
     Text(u32),
 }
 
-/// A reply. `id` is the number of its request, from 1 on.
+/// A reply. `id` is the number of its request, from 1 on. `pin` names the versions that an answer speaks of.
 #[derive(Drop)]
 pub enum Reply {
     Refused {
@@ -40,21 +50,33 @@ pub enum Reply {
         put: Text,
         version: u32,
     },
+    /// The certificate is a derivation for a yes and a world for a no.
     Decided {
         id: u64,
         yes: bool,
+        from: Origin,
         pin: Pin,
+        cert: Value,
     },
     /// The run at this peer put as many labels as it may, which is `count`, and would have put another.
     RunSpent {
         id: u64,
         count: u64,
         peer: u32,
+        from: Origin,
+        pin: Pin,
+    },
+    /// As many verdicts were posted as may be, which is `count`.
+    VerdictsSpent {
+        id: u64,
+        count: u64,
+        from: Origin,
         pin: Pin,
     },
     /// There was no memory for an answer to an ask.
     Memory {
         id: u64,
+        from: Origin,
         pin: Pin,
     },
     Valid {
@@ -73,5 +95,10 @@ pub enum Reply {
     Unreadable {
         id: u64,
         what: Unread,
+    },
+    /// The number of each peer's last version.
+    Versions {
+        id: u64,
+        versions: Pin,
     },
 }

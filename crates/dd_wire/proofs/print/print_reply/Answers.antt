@@ -6,5 +6,5 @@ use Rattle.dd_wire.proofs.print.print_reply.Goals as goal
 
 pub returns : goal.returns
 returns c =
-    let none : has_float (view c.in_ok-value.value) ≡ false = rw c.in_ok-value.ensures (no_float c.args.reply.now) in
+    let none : has_float (view c.in_ok-value.value) ≡ false = rw c.in_ok-value.ensures (no_float c.args.reply.now c.requires) in
     search (rules, none)

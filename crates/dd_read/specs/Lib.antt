@@ -1,0 +1,13 @@
+pub mod Options
+pub mod State
+pub mod Asks
+pub mod Tests
+pub mod Judged
+pub mod Read
+pub mod Standing
+pub mod Fit
+pub mod Laws
+pub mod Told
+pub mod ReadingState
+pub mod Does
+pub mod Props
