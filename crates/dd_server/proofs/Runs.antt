@@ -1,22 +1,33 @@
 -- Whole runs: the lines so far led to where the session stands, and what was given is the replies of the windows that ended.
-use Rattle.std.proofs.Common.{◌≡◌, ℕ, ◌+◌, ◌<◌, ◌≤◌, ◌⊎◌, List, [], ◌∷◌, ◌++◌, length, take, refl, ap, sym, ◌∙◌, subst, inl, inr, arith, Option, None, Some, IfSome, length-append, zero-add}
+use Rattle.std.proofs.Common.{◌≡◌, ℕ, ◌+◌, ◌<◌, ◌≤◌, ◌⊎◌, List, [], ◌∷◌, ◌++◌, length, take, refl, ap, sym, ◌∙◌, subst, inl, inr, arith, Option, None, Some, IfSome, zero, suc, length-append, zero-add}
+use Rattle.std.specs.Prelude.{flat_map, map}
 use Rattle.std.proofs.Math.Nat.{suc-add}
 use Rattle.std.proofs.lemmas.List.{append-nil, append_assoc}
+use Rattle.std.proofs.lemmas.Option.{same_Some}
+use Rattle.std.specs.List.{slice_get}
+use Rattle.std.specs.declared.vec.Vec.{Vec}
+use Rattle.dd_text.specs.Symbols.{texts_of}
 use Rattle.dd_lines.specs.Lines.{lines_of, ended_lines, IsCut}
 use Rattle.dd_lines.specs.NextLine.{StandsFor, IsFirst, Next, Over, TakesNoFeed, TakesTooMuch}
-use Rattle.dd_lines.specs.Outside.{Gives, GivesFront, TakesFront}
+use Rattle.dd_lines.specs.Outside.{Gives, GivesFront, Rose, TakesFront}
 use Rattle.dd_lines.specs.Reading.{Reading, room, ahead}
 use Rattle.dd_lines.specs.declared.reader.LineStep.{LineStep}
 use Rattle.dd_lines.specs.declared.reader.LineStep.TheVariants as step
 use Rattle.dd_lines.proofs.Feeds.{ended_lines-feed, ended_lines-none}
 use Rattle.dd_wire.specs.Replies.{reply_text}
 use Rattle.dd_wire.specs.declared.reply.Reply.{Reply}
-use Rattle.dd_server.specs.declared.options.Options.{Options}
-use Rattle.dd_server.specs.Headline.{most_bytes, GivesAll, GivesFirst, GivesSome, WereRead, GivesRead, GivesWithin}
-use Rattle.dd_server.specs.Session.{State, Standing, Through, opening, written}
-use Rattle.dd_server.specs.Turns.{IsLine, Turned, BreaksOff}
+use Rattle.dd_read.specs.declared.options.Options.{Options}
+use Rattle.dd_read.specs.Standing.{TakesLine}
+use Rattle.dd_read.specs.declared.accepted.Accepted.{Accepted}
+use Rattle.dd_read.specs.declared.accepted.Accepted.TheVariants.{Due, More}
+use Rattle.dd_server.specs.Headline.{most_bytes, Cause, GivesAll, GivesFirst, GivesSome, Limit, Output, WereRead, GivesRead, GivesWithin}
+use Rattle.dd_server.specs.Finish.{Entries}
+use Rattle.dd_server.specs.Session.{FinishesAt, Session, Standing, Through, Turn, opening, written}
+use Rattle.dd_server.specs.Turns.{BreaksOff, EndsAs, IsFinished, IsHalfFinished, IsLine, Turned}
+use Rattle.dd_server.specs.Windows.{line_text}
+use Rattle.dd_server.specs.declared.status.Status.{Status}
+use Rattle.dd_server.specs.declared.status.Status.TheVariants as status
 use Rattle.dd_server.proofs.GoesOn.{through-turn, completes}
-use Rattle.dd_server.proofs.Turning.{between}
 
 -- ---- what is given
 
@@ -43,6 +54,76 @@ front_before a b xs ys g = (g.0, g.1 ++ ys, ap (λ (zs : List ℕ). zs ++ ys) g.
 written-append : (rs ss : List Reply) → written (rs ++ ss) ≡ written rs ++ written ss
 written-append [] ss = refl
 written-append (r ∷ rs) ss = ap (λ (zs : List ℕ). (reply_text r ++ 10 ∷ []) ++ zs) (written-append rs ss) ∙ sym (append_assoc (reply_text r ++ 10 ∷ []) (written rs) (written ss))
+
+-- the texts of replies with their line feeds, one after another, are what is written of them
+pub written-lines : (rs : List Reply) → flat_map (λ line. line) (map line_text rs) ≡ written rs
+written-lines [] = refl
+written-lines (r ∷ rs) = ap (λ (zs : List ℕ). line_text r ++ zs) (written-lines rs)
+
+-- the lines before one of them, that line, and what is behind it
+around : {A : Type 0} (vs : List (Vec ℕ A)) (n : ℕ) (v : Vec ℕ A) → slice_get vs n ≡ Some v
+    → (rest : List ℕ) × (flat_map (λ line. line) (texts_of vs) ≡ (flat_map (λ line. line) (texts_of (take n vs)) ++ v.items) ++ rest)
+around [] n v is = absurd (cc is)
+around (w ∷ vs) zero v is = (flat_map (λ line. line) (texts_of vs), ap (λ (u : Vec ℕ _). u.items ++ flat_map (λ line. line) (texts_of vs)) (same_Some w v is))
+around (w ∷ vs) (suc n) v is =
+    let more = around vs n v is in
+    let before = flat_map (λ line. line) (texts_of (take n vs)) in (
+      more.0,
+      ap (λ (zs : List ℕ). w.items ++ zs) more.1 ∙ sym (append_assoc w.items (before ++ v.items) more.0) ∙ ap (λ (zs : List ℕ). zs ++ more.0) (sym (append_assoc w.items before v.items)),
+    )
+
+-- the lines before one were given, and a front of that one: a front of all was given
+pub front-of-lines : {A : Type 0} (vs : List (Vec ℕ A)) (n : ℕ) (v : Vec ℕ A) (a b c : Option (List ℕ)) → slice_get vs n ≡ Some v
+    → Gives a b (flat_map (λ line. line) (texts_of (take n vs))) → GivesFront b c v.items → GivesFront a c (flat_map (λ line. line) (texts_of vs))
+front-of-lines vs n v a b c is f g =
+    let parts = around vs n v is in
+    let before = flat_map (λ line. line) (texts_of (take n vs)) in
+    subst (GivesFront a c) (sym parts.1) (front_before a c (before ++ v.items) parts.0 (front_after a b c before v.items f g))
+
+-- ---- a window and its lines
+
+-- what was written of a window that was finished
+pub finished-of : (o : Options) (at : Standing) (new : Entries) (texts : List (List ℕ)) (before after : Option (List ℕ))
+    → ((replies : List Reply) × FinishesAt o at new replies × (texts ≡ map line_text replies)) → Gives before after (flat_map (λ line. line) texts)
+    → IsFinished o at new before after
+finished-of o at new texts before after h g = (h.0, h.1, subst (Gives before after) (ap (flat_map (λ line. line)) h.2 ∙ written-lines h.0) g)
+
+pub half-finished-of : (o : Options) (at : Standing) (new : Entries) (texts : List (List ℕ)) (before after : Option (List ℕ))
+    → ((replies : List Reply) × FinishesAt o at new replies × (texts ≡ map line_text replies)) → GivesFront before after (flat_map (λ line. line) texts)
+    → IsHalfFinished o at new before after
+half-finished-of o at new texts before after h g = (h.0, h.1, subst (GivesFront before after) (ap (flat_map (λ line. line)) h.2 ∙ written-lines h.0) g)
+
+-- a line was taken, and its window goes on
+pub more-turned : (o : Options) (a b : Standing) (answer : Accepted) (line : List ℕ) (given : Option (List ℕ)) → answer ≡ More
+    → TakesLine o a.reading line b.reading answer → b.entries ≡ a.entries → Turned o a line b given given
+more-turned o a b answer line given is takes same = (
+  [],
+  (
+    b.reading,
+    More,
+    subst (TakesLine o a.reading line b.reading) is takes,
+    (ap (λ (es : Entries). let s : Standing = record { reading = b.reading; entries = es } in s) same, refl),
+  ),
+  gives_nothing given,
+)
+
+-- a line was taken, and its window was finished
+due-turn : (o : Options) (a m b : Standing) (answer : Accepted) (line : List ℕ) (replies : List Reply) → answer ≡ Due → TakesLine o a.reading line m.reading answer
+    → m.entries ≡ a.entries → FinishesAt o m b.entries replies → b.reading ≡ record m.reading { kept = [] } → Turn o a line b replies
+due-turn o a m b answer line replies is takes same finishes empty = (
+  m.reading,
+  Due,
+  subst (TakesLine o a.reading line m.reading) is takes,
+  (subst (λ (es : Entries). FinishesAt o (record { reading = m.reading; entries = es }) b.entries replies) same finishes, empty),
+)
+
+pub due-turned : (o : Options) (a m b : Standing) (answer : Accepted) (line : List ℕ) (before after : Option (List ℕ)) → answer ≡ Due → TakesLine o a.reading line m.reading answer
+    → m.entries ≡ a.entries → IsFinished o m b.entries before after → b.reading ≡ record m.reading { kept = [] } → Turned o a line b before after
+due-turned o a m b answer line before after is takes same f empty = (f.0, due-turn o a m b answer line f.0 is takes same f.1 empty, f.2)
+
+pub due-broken : (o : Options) (a m b : Standing) (answer : Accepted) (line : List ℕ) (before after : Option (List ℕ)) → answer ≡ Due → TakesLine o a.reading line m.reading answer
+    → m.entries ≡ a.entries → IsHalfFinished o m b.entries before after → b.reading ≡ record m.reading { kept = [] } → BreaksOff o a line b before after
+due-broken o a m b answer line before after is takes same f empty = (f.0, due-turn o a m b answer line f.0 is takes same f.1 empty, f.2)
 
 -- ---- a run
 
@@ -185,16 +266,51 @@ nothing_left r (Some xs) e = ap Some (tail r.held xs (inside e))
         cons : h ∷ (hs ++ xs) ≡ [] → ⊥
         cons e = cc e
 
-pub done : (o : Options) (max : ℕ) (old now before given left : Option (List ℕ)) (r : Reading) (space less : ℕ) (s : State) (n : ℕ)
-    → IsSoFar o old now before given space (between s n) → Steps max step.End now (ahead r left) space less
-    → IfSome old (λ input. (left ≡ Some []) × GivesAll o input before given)
-done o max None now before given left r space less s n reached h = tt
-done o max (Some input) now before given left r space less s n reached h =
-    let ends : Steps max step.End (Some reached.rest) (ahead r left) space less = subst (λ (o : Option (List ℕ)). Steps max step.End o (ahead r left) space less) reached.is_ahead h in
-    let all : lines_of input ≡ reached.lines = reached.lines_are ∙ ap (λ (xs : List ℕ). reached.lines ++ lines_of xs) ends.2.0 ∙ append-nil reached.lines in
-    let through = subst (λ (ls : List (List ℕ)). Through o opening ls (between s n) reached.replies) (sym all) reached.through in (
-      nothing_left r left (ends.1 ∙ ap Some ends.2.1),
-      (reached.replies, (between s n, reached.replies, s, [], through, (refl, refl), sym (append-nil reached.replies)), reached.gives),
+-- the last window was finished at the end of the source
+module _ (o : Options) (input : List ℕ) (before given after : Option (List ℕ)) (space : ℕ) (at : Standing) (entries : Entries) (more : List Reply) where
+  all_lines : (now : Option (List ℕ)) → (reached : SoFar o input now before given space at) → reached.rest ≡ [] → lines_of input ≡ reached.lines
+  all_lines now reached none = reached.lines_are ∙ ap (λ (xs : List ℕ). reached.lines ++ lines_of xs) none ∙ append-nil reached.lines
+
+  last_session : (now : Option (List ℕ)) → (reached : SoFar o input now before given space at) → reached.rest ≡ [] → FinishesAt o at entries more → Session o input (reached.replies ++ more)
+  last_session now reached none finishes = (
+    at,
+    reached.replies,
+    entries,
+    more,
+    subst (λ (ls : List (List ℕ)). Through o opening ls at reached.replies) (sym (all_lines now reached none)) reached.through,
+    finishes,
+    refl,
+  )
+
+ends_with : (max : ℕ) (now later : Option (List ℕ)) (rest : List ℕ) (space less : ℕ) → now ≡ Some rest → Steps max step.End now later space less → (rest ≡ []) × (later ≡ Some [])
+ends_with max now later rest space less is h =
+    let e : Steps max step.End (Some rest) later space less = subst (λ (o : Option (List ℕ)). Steps max step.End o later space less) is h in
+    (e.2.0, e.1 ∙ ap Some e.2.1)
+
+pub done : (o : Options) (max : ℕ) (old now before given after left : Option (List ℕ)) (r : Reading) (space less : ℕ) (at : Standing) (entries : Entries)
+    → IsSoFar o old now before given space at → Steps max step.End now (ahead r left) space less → IsFinished o at entries given after
+    → IfSome old (λ input. (left ≡ Some []) × GivesAll o input before after)
+done o max None now before given after left r space less at entries reached h f = tt
+done o max (Some input) now before given after left r space less at entries reached h f =
+    let e = ends_with max now (ahead r left) reached.rest space less reached.is_ahead h in (
+      nothing_left r left e.1,
+      (
+        reached.replies ++ f.0,
+        last_session o input before given after space at entries f.0 now reached e.0 f.1,
+        subst (Gives before after) (sym (written-append reached.replies f.0)) (gives_both before given after (written reached.replies) (written f.0) reached.gives f.2),
+      ),
+    )
+
+-- the sink failed while the last window was written
+pub broken_end : (o : Options) (max : ℕ) (old now later before given after : Option (List ℕ)) (space less : ℕ) (at : Standing) (entries : Entries)
+    → IsSoFar o old now before given space at → Steps max step.End now later space less → IsHalfFinished o at entries given after
+    → IfSome old (λ input. GivesSome o input before after)
+broken_end o max None now later before given after space less at entries reached h f = tt
+broken_end o max (Some input) now later before given after space less at entries reached h f =
+    let e = ends_with max now later reached.rest space less reached.is_ahead h in (
+      reached.replies ++ f.0,
+      last_session o input before given after space at entries f.0 now reached e.0 f.1,
+      subst (GivesFront before after) (sym (written-append reached.replies f.0)) (front_after before given after (written reached.replies) (written f.0) reached.gives f.2),
     )
 
 pub done_limit : (o : Options) (max : ℕ) (old now before given later : Option (List ℕ)) (space less : ℕ) (at : Standing)
@@ -331,3 +447,42 @@ broken o max s (Some input) now later before given after space less at next is r
       more.1,
       subst (GivesFront before after) (sym (written-append (r.replies ++ t.0) more.0 ∙ ap (λ (zs : List ℕ). zs ++ written more.0) (written-append r.replies t.0))) front,
     )
+
+-- ---- how the last window ended
+
+pub ends_output : (o : Options) (max : ℕ) (s : Status) (old now before given after left : Option (List ℕ)) (r : Reading) (space less write write' : ℕ) (at : Standing)
+    → IsSoFar o old now before given space at → Steps max step.End now (ahead r left) space less → EndsAs o at s given after write write'
+    → Output o s old left before after
+ends_output o max status.Done old now before given after left r space less write write' at reached h e = done o max old now before given after left r space less at e.0 reached h e.1
+ends_output o max status.Memory old now before given after left r space less write write' at reached h e =
+    subst (λ (x : Option (List ℕ)). IfSome old (λ input. GivesFirst o input before x)) (sym e) (stopped o old now before given space at reached)
+ends_output o max status.WriteFault old now before given after left r space less write write' at reached h e =
+    broken_end o max old now (ahead r left) before given after space less at e.0 reached h e.1
+ends_output o max status.Words old now before given after left r space less write write' at reached h e = absurd e
+ends_output o max status.ReadFault old now before given after left r space less write write' at reached h e = absurd e
+ends_output o max status.TooMuch old now before given after left r space less write write' at reached h e = absurd e
+
+rose-from : (old mid new : ℕ) → old ≤ mid → Rose mid new → Rose old new
+rose-from old mid new le (inl lt) = inl (omega (arith, le, lt))
+rose-from old mid new le (inr most) = inr most
+
+pub ends_cause : (o : Options) (s : Status) (given after : Option (List ℕ)) (read read' start write write' : ℕ) (at : Standing)
+    → start ≤ write → EndsAs o at s given after write write' → Cause s read read' start write'
+ends_cause o status.Done given after read read' start write write' at le e = tt
+ends_cause o status.Memory given after read read' start write write' at le e = tt
+ends_cause o status.WriteFault given after read read' start write write' at le e = rose-from start write write' le e.2
+ends_cause o status.Words given after read read' start write write' at le e = absurd e
+ends_cause o status.ReadFault given after read read' start write write' at le e = absurd e
+ends_cause o status.TooMuch given after read read' start write write' at le e = absurd e
+
+pub ends_limit : (o : Options) (max : ℕ) (s : Status) (old now before given after later : Option (List ℕ)) (space less write write' : ℕ) (at : Standing)
+    → IsSoFar o old now before given space at → Steps max step.End now later space less → EndsAs o at s given after write write' → Limit s old
+ends_limit o max status.Done old now before given after later space less write write' at reached h e = done_limit o max old now before given later space less at reached h
+ends_limit o max status.Memory old now before given after later space less write write' at reached h e = tt
+ends_limit o max status.WriteFault old now before given after later space less write write' at reached h e = tt
+ends_limit o max status.Words old now before given after later space less write write' at reached h e = absurd e
+ends_limit o max status.ReadFault old now before given after later space less write write' at reached h e = absurd e
+ends_limit o max status.TooMuch old now before given after later space less write write' at reached h e = absurd e
+
+pub ends_without_words : (o : Options) (s : Status) (given after : Option (List ℕ)) (write write' : ℕ) (at : Standing) → EndsAs o at s given after write write' → s ≡ status.Words → ⊥
+ends_without_words o s given after write write' at e is = subst (λ (x : Status). EndsAs o at x given after write write') is e

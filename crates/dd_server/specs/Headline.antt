@@ -4,7 +4,7 @@ use Rattle.dd_lines.specs.Lines.{lines_of, ended_lines}
 use Rattle.dd_lines.specs.Outside.{Rose, Gives, GivesFront}
 use Rattle.dd_wire.specs.declared.reply.Reply.{Reply}
 use Rattle.dd_server.specs.Session.{Standing, Through, opening, Session, written}
-use Rattle.dd_server.specs.declared.options.Options.{Options}
+use Rattle.dd_read.specs.declared.options.Options.{Options}
 use Rattle.dd_server.specs.declared.status.Status.{Status}
 use Rattle.dd_server.specs.declared.status.Status.TheVariants as status
 

@@ -1,10 +1,8 @@
 -- Laws of a session's definitions.
-use Rattle.std.specs.Prelude.{◌≡◌, ℕ, List}
-use Rattle.dd_wire.specs.Refusal.{Tested}
-use Rattle.dd_wire.specs.Texts.{Resolved}
-use Rattle.dd_server.specs.declared.options.Options.{Options}
-use Rattle.dd_server.specs.Session.{State, Passes}
+use Rattle.dd_peer.specs.Relevant.{AreRelevant}
+use Rattle.dd_task.specs.declared.job.Job.{Job}
+use Rattle.dd_server.specs.Relevance.{AskTheSame, AreAnsweredAlike}
 
--- The tests of a line decide: there is one thing that they find, the request or the refusal of the first test that fails.
-abbrev pub TestsDecide : Type 0
-TestsDecide = (options : Options) (state : State) (line : List ℕ) (one other : Tested Resolved) → Passes options state line one → Passes options state line other → one ≡ other
+-- What is answered rests on the versions of the relevant peers alone.
+abbrev pub RelevantVersions : Type 0
+RelevantVersions = (a b : Job) → AreRelevant a.pinned a.query.peer a.relevant → AskTheSame a b → AreAnsweredAlike a b

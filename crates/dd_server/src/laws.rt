@@ -1,6 +1,12 @@
-ghost use Rattle.dd_server.specs.Laws.{TestsDecide};
+ghost use Rattle.dd_server.specs.Laws.{RelevantVersions};
+ghost use Rattle.dd_server.specs.Verdicts.{VerdictsHold};
 
-/// The law that the tests of a line find one thing. The call does nothing.
-pub fn tests_decide()
-    ensures { TestsDecide }
+/// The law that what is answered rests on the versions of the relevant peers alone. The call does nothing.
+pub fn relevant_versions()
+    ensures { RelevantVersions }
+{}
+
+/// The law that each verdict that is replied says what holds, be it searched for or found in the cache. The call does nothing.
+pub fn verdicts_hold()
+    ensures { VerdictsHold }
 {}

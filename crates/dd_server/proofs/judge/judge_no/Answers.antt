@@ -1,5 +1,0 @@
-use Rattle.std.proofs.Common.{rules}
-use Rattle.dd_server.proofs.judge.judge_no.Goals as goal
-
-pub returns : goal.returns
-returns c = search rules

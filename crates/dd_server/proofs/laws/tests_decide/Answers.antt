@@ -1,5 +1,0 @@
-use Rattle.dd_server.proofs.Deciding.{passes_decide}
-use Rattle.dd_server.proofs.laws.tests_decide.Goals as goal
-
-pub returns : goal.returns
-returns c = passes_decide
