@@ -1,10 +1,14 @@
 //! The program: a reasoner for Distributed Description Logics that answers request lines with proved verdicts.
 //!
-//! `words` has the words after the program's name, and `alone` the top call, which does what they ask for. What it promises
-//! is `specs/Words.antt`, and `specs/Headline.antt` of `dd_server`.
+//! `words` has the words after the program's name, and `alone` the top call, which does what they ask for: a session, `make` the
+//! requests that are made from three numbers, or `drill` the line that sums up a session over these, as `summary` writes it. What it
+//! promises is `specs/Made.antt`, `specs/Drilled.antt`, and `specs/Headline.antt` of `dd_server`.
 #![tactic(auto)]
 
 mod alone;
+mod drill;
+mod make;
+mod summary;
 mod words;
 
 use crate::alone::{USAGE, drago_alone};

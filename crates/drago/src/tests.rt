@@ -9,7 +9,9 @@ mod asks;
 mod certificates;
 mod checks;
 mod limits;
+mod made;
 mod refusals;
+mod rows;
 mod transcript;
 mod words;
 
@@ -19,10 +21,10 @@ const REQUESTS: &str = r#"{"op":"peers","names":["a"]}
 {"op":"ask","peer":"a","left":"A","right":"C"}
 "#;
 
-/// Their replies, of 19, 31 and 35 bytes with their line feeds.
+/// Their replies, of 19, 31 and 475 bytes with their line feeds.
 const REPLIES: &str = r#"{"id":1,"peers":1}
 {"id":2,"put":"a","version":1}
-{"id":3,"pin":[1],"verdict":"yes"}
+{"cert":{"format":1,"kind":"yes","lines":[{"label":["C","(not C)"],"peer":0,"why":{"name":"C","rule":"clash"}},{"label":["B","(not B)"],"peer":0,"why":{"name":"B","rule":"clash"}},{"label":["B","(not C)"],"peer":0,"why":{"axiom":1,"left":1,"right":0,"rule":"axiom"}},{"label":["(not A)","A"],"peer":0,"why":{"name":"A","rule":"clash"}},{"label":["A","(not C)"],"peer":0,"why":{"axiom":0,"left":3,"right":2,"rule":"axiom"}}]},"from":"search","id":3,"pin":[1],"verdict":"yes"}
 "#;
 
 /// What is told of a source and a sink: what the sink was given by sessions one after another, each with its words, and
@@ -79,6 +81,9 @@ fn add_word(alloc: Global, text: &str, words: &mut Vec<String>) -> Result<(), Al
 
 /// A session with the right word.
 const ALONE: &[&[&str]] = &[&["alone"]];
+
+/// A session in which each request ends its window.
+const ONE_BY_ONE: &[&[&str]] = &[&["alone", "--window=1"]];
 
 /// A call that no session here makes, so that none fails.
 const NEVER: u64 = u64::MAX;
@@ -177,7 +182,7 @@ fn each_line_with_a_byte_is_a_request(rt: HostRuntime) -> Result<(), Failure> {
     runs_are_told(rt.alloc())
 }
 
-/// The three requests, read by 10 bytes and written by 16, at ends that fail. A row is: how many bytes there are to
+/// The three requests, each a window of its own, read by 10 bytes and written by 16, at ends that fail. A row is: how many bytes there are to
 /// read, the read that fails, counted from 0, the bytes that the sink holds, and the write that fails; then how many
 /// bytes of the replies are given, and what is told behind them.
 const CUTS: &[(usize, u64, usize, u64, usize, &str)] = &[
@@ -201,7 +206,7 @@ const CUTS: &[(usize, u64, usize, u64, usize, &str)] = &[
         "{\"code\":1,\"error\":\"bad_json\",\"id\":2}\n0",
     ),
     (95, NEVER, 4096, NEVER, 50, "0"),
-    (143, NEVER, 4096, NEVER, 85, "0"),
+    (143, NEVER, 4096, NEVER, 525, "0"),
     // A read fails.
     (143, 0, 4096, NEVER, 0, "3"),
     (143, 2, 4096, NEVER, 0, "3"),
@@ -209,12 +214,14 @@ const CUTS: &[(usize, u64, usize, u64, usize, &str)] = &[
     (143, 9, 4096, NEVER, 19, "3"),
     (143, 10, 4096, NEVER, 50, "3"),
     (143, 14, 4096, NEVER, 50, "3"),
-    (143, 15, 4096, NEVER, 85, "3"),
+    (143, 15, 4096, NEVER, 525, "3"),
     // A write fails, or the sink is full.
     (143, NEVER, 4096, 0, 0, "4"),
     (143, NEVER, 4096, 1, 16, "4"),
     (143, NEVER, 4096, 2, 19, "4"),
     (143, NEVER, 4096, 3, 35, "4"),
+    (143, NEVER, 4096, 4, 50, "4"),
+    (143, NEVER, 4096, 33, 514, "4"),
     (143, NEVER, 0, NEVER, 0, "4"),
     (143, NEVER, 20, NEVER, 20, "4"),
 ];
@@ -250,7 +257,7 @@ fn breaks(
     let bytes = REQUESTS.as_bytes().get(..input).unwrap_or(&[]);
     let source = source_of(alloc, bytes, 10, read)?;
     let sink = sink_of(alloc, capacity, 16, write)?;
-    told(alloc, ALONE, source, sink)
+    told(alloc, ONE_BY_ONE, source, sink)
 }
 
 #[test]

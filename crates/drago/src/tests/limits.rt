@@ -65,7 +65,7 @@ const LIMITS: &str = r#"
 > {"op":"check","peer":"a","left":"~100000*(not ~A~100000*)~","right":"(","pin":[0],"cert":{}}
 < {"code":3,"error":"bad_concept","id":3,"n":1}
 > {"op":"ask","peer":"a","left":"~63*(not ~A~63*)~","right":"B"}
-< {"id":4,"pin":[0],"verdict":"no"}
+< {"cert":{"format":1,"kind":"no","links":[],"locals":[{"names":[],"roles":[],"size":1}]},"from":"search","id":4,"pin":[0],"verdict":"no"}
 > {"op":"ask","peer":"a","left":"~64*(not ~A~64*)~","right":"B"}
 < {"code":11,"error":"concept_limit","id":5,"n":0}
 > {"op":"ask","peer":"a","left":"B","right":"~100000*(not ~A~100000*)~"}
@@ -74,12 +74,14 @@ const LIMITS: &str = r#"
 # The sides of an ask have at most 1,000 nodes.
 > {"op":"peers","names":["a"]}
 < {"id":1,"peers":1}
-> {"op":"ask","peer":"a","left":"~30*(and ^31*(not ^A^31*)^ ~^9*(not ^A^9*)^~30*)~","right":"~30*(and ^31*(not ^A^31*)^ ~^9*(not ^A^9*)^~30*)~"}
-< {"id":2,"pin":[0],"verdict":"yes"}
+> {"op":"ask","peer":"a","left":"~30*(and ^31*(not ^A^31*)^ ~^9*(not ^A^9*)^~30*)~","right":"top"}
+< {"cert":{"format":1,"kind":"yes","lines":[{"label":["bottom"],"peer":0,"why":{"rule":"bottom"}}]},"from":"search","id":2,"pin":[0],"verdict":"yes"}
+> {"op":"ask","peer":"a","left":"bottom","right":"~30*(and ^31*(not ^A^31*)^ ~^9*(not ^A^9*)^~30*)~"}
+< {"cert":{"format":1,"kind":"yes","lines":[{"label":["bottom"],"peer":0,"why":{"rule":"bottom"}}]},"from":"search","id":3,"pin":[0],"verdict":"yes"}
 > {"op":"ask","peer":"a","left":"~30*(and ^31*(not ^A^31*)^ ~^10*(not ^A^10*)^~30*)~","right":"A"}
-< {"code":11,"error":"concept_limit","id":3,"n":0}
+< {"code":11,"error":"concept_limit","id":4,"n":0}
 > {"op":"ask","peer":"a","left":"A","right":"~30*(and ^31*(not ^A^31*)^ ~^10*(not ^A^10*)^~30*)~"}
-< {"code":11,"error":"concept_limit","id":4,"n":1}
+< {"code":11,"error":"concept_limit","id":5,"n":1}
 ---
 # An axiom outside the grammar comes before one that is too deep, and that before the number of axioms, which is at most 2,000.
 > {"op":"peers","names":["a"]}
@@ -93,7 +95,7 @@ const LIMITS: &str = r#"
 > {"op":"put","peer":"a","axioms":["(implies A B)"~1998*,"(implies A C)"~,"(implies B D)"]}
 < {"id":5,"put":"a","version":1}
 > {"op":"ask","peer":"a","left":"A","right":"D"}
-< {"id":6,"pin":[1],"verdict":"yes"}
+< {"cert":{"format":1,"kind":"yes","lines":[{"label":["D","(not D)"],"peer":0,"why":{"name":"D","rule":"clash"}},{"label":["B","(not B)"],"peer":0,"why":{"name":"B","rule":"clash"}},{"label":["B","(not D)"],"peer":0,"why":{"axiom":1999,"left":1,"right":0,"rule":"axiom"}},{"label":["(not A)","A"],"peer":0,"why":{"name":"A","rule":"clash"}},{"label":["A","(not D)"],"peer":0,"why":{"axiom":0,"left":3,"right":2,"rule":"axiom"}}]},"from":"search","id":6,"pin":[1],"verdict":"yes"}
 ---
 # A check with A, C and 65,535 further names has one too many, and no check leaves its names.
 > {"op":"peers","names":["a"]}
@@ -103,7 +105,7 @@ const LIMITS: &str = r#"
 > {"op":"check","peer":"a","left":"A","right":"C","pin":[0],"cert":{"format":1,"kind":"no","links":[],"locals":[{"roles":[],"size":1,"names":[["A",0]~65534*,["m#",0]~]}]}}
 < {"check":"valid","id":3}
 > {"op":"ask","peer":"a","left":"X","right":"Y"}
-< {"id":4,"pin":[0],"verdict":"no"}
+< {"cert":{"format":1,"kind":"no","links":[],"locals":[{"names":[["X",0]],"roles":[],"size":1}]},"from":"search","id":4,"pin":[0],"verdict":"no"}
 ---
 # A line has at most 1,048,576 bytes, and one of more is refused alone.
 > ~1048576* ~
@@ -132,7 +134,7 @@ const CLOSURES: &str = r#"
 > {"op":"ask","peer":"a","left":"~45*(and L# ~L~45*)~","right":"(or V (some r W))","expansions":0}
 < {"code":14,"error":"bad_budget","id":4}
 > {"op":"ask","peer":"a","left":"~45*(and L# ~L~45*)~","right":"(or V W)"}
-< {"id":5,"pin":[1],"verdict":"no"}
+< {"cert":{"format":1,"kind":"no","links":[],"locals":[{"names":[~45*["L#",0],~["L",0]],"roles":[],"size":1}]},"from":"search","id":5,"pin":[1],"verdict":"no"}
 "#;
 
 #[test]

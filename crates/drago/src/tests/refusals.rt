@@ -7,12 +7,12 @@ const REFUSED: &str = r#"
 # A put that is refused leaves the first one open.
 > {"op":"put","peer":"a","axioms":["(implies X Y)","(implies X)","X"]}
 < {"code":3,"error":"bad_concept","id":2,"n":1}
-> {"op":"put","peer":"b","axioms":["(implies X Y)"]}
-< {"code":17,"error":"not_built","id":3}
-> {"op":"put","peer":"a","axioms":["X"],"into":[{"from":"b","source":"X","target":"Y"}]}
-< {"code":17,"error":"not_built","id":4}
-> {"op":"put","peer":"a","onto":[{"from":"a","source":"X","target":"Y"}]}
-< {"code":17,"error":"not_built","id":5}
+> {"op":"put","peer":"b","axioms":["(implies X)"]}
+< {"code":7,"error":"unknown_peer","id":3}
+> {"op":"put","peer":"a","axioms":["(implies X Y)"],"into":[{"from":"b","source":"X","target":"Y"}]}
+< {"code":19,"error":"unknown_source","id":4,"n":0}
+> {"op":"put","peer":"a","into":[{"from":"b","source":"X","target":"Y"}],"onto":[{"from":"a","source":"X","target":"Y"}]}
+< {"code":8,"error":"same_peer","id":5,"n":1}
 > {"op":"put","peer":"a","axioms":"(implies X Y)"}
 < {"code":2,"error":"bad_shape","id":6}
 > {"op":"check","peer":"a","left":"X","right":"Y Z","pin":[0],"cert":{}}
@@ -80,35 +80,36 @@ const REFUSED: &str = r#"
 < {"code":3,"error":"bad_concept","id":37,"n":1}
 > {"op":"put","peer":"a","axioms":["(implies A B)","(implies B C)"]}
 < {"id":38,"put":"a","version":1}
-# What is not accepted yet is refused before its texts are read.
+# Peers are declared once, and no other peer is known.
 > {"op":"peers","names":["a"]}
-< {"code":17,"error":"not_built","id":39}
+< {"code":5,"error":"peers_twice","id":39}
 > {"op":"peers","names":[]}
-< {"code":17,"error":"not_built","id":40}
+< {"code":5,"error":"peers_twice","id":40}
 > {"op":"versions"}
-< {"code":17,"error":"not_built","id":41}
-> {"op":"put","peer":"a"}
-< {"code":17,"error":"not_built","id":42}
+< {"id":41,"versions":[1]}
+> {"op":"put","peer":"a","axioms":["(implies A D)","A"]}
+< {"code":3,"error":"bad_concept","id":42,"n":1}
 > {"op":"put","peer":"a","axioms":["X"]}
-< {"code":17,"error":"not_built","id":43}
+< {"code":3,"error":"bad_concept","id":43,"n":0}
 > {"op":"put","peer":"top"}
-< {"code":17,"error":"not_built","id":44}
-> {"op":"ask","peer":"b","left":"A","right":"C"}
-< {"code":17,"error":"not_built","id":45}
+< {"code":7,"error":"unknown_peer","id":44}
+> {"op":"ask","peer":"b","left":"(","right":"C"}
+< {"code":7,"error":"unknown_peer","id":45}
 > {"op":"ask","peer":"a","left":"A","right":"C","verdicts":1}
-< {"code":17,"error":"not_built","id":46}
-> {"op":"ask","peer":"a","left":"(not A","right":"C","verdicts":1}
-< {"code":17,"error":"not_built","id":47}
+< {"cert":{"format":1,"kind":"yes","lines":[{"label":["C","(not C)"],"peer":0,"why":{"name":"C","rule":"clash"}},{"label":["B","(not B)"],"peer":0,"why":{"name":"B","rule":"clash"}},{"label":["B","(not C)"],"peer":0,"why":{"axiom":1,"left":1,"right":0,"rule":"axiom"}},{"label":["(not A)","A"],"peer":0,"why":{"name":"A","rule":"clash"}},{"label":["A","(not C)"],"peer":0,"why":{"axiom":0,"left":3,"right":2,"rule":"axiom"}}]},"from":"search","id":46,"pin":[1],"verdict":"yes"}
+> {"op":"ask","peer":"a","left":"(not A","right":"C","verdicts":0}
+< {"code":3,"error":"bad_concept","id":47,"n":0}
 > {"op":"ask","peer":"a","left":"A","right":"C","expansions":0,"verdicts":0}
-< {"code":17,"error":"not_built","id":48}
+< {"code":14,"error":"bad_budget","id":48}
 > {"op":"ask","peer":"a","left":"A","right":"C","verdicts":18446744073709551615}
-< {"code":17,"error":"not_built","id":49}
-> {"op":"check","peer":"b","left":"A","right":"C","pin":[1],"cert":{}}
-< {"code":17,"error":"not_built","id":50}
+< {"code":14,"error":"bad_budget","id":49}
+> {"op":"check","peer":"b","left":"(","right":"C","pin":[1],"cert":{}}
+< {"code":7,"error":"unknown_peer","id":50}
 > {"op":"check","peer":"a","left":"(","right":"C","pin":[],"cert":{"kind":"yes"}}
 < {"code":3,"error":"bad_concept","id":51,"n":0}
+# An answer that was kept is given again.
 > {"op":"ask","peer":"a","left":"A","right":"C"}
-< {"id":52,"pin":[1],"verdict":"yes"}
+< {"cert":{"format":1,"kind":"yes","lines":[{"label":["C","(not C)"],"peer":0,"why":{"name":"C","rule":"clash"}},{"label":["B","(not B)"],"peer":0,"why":{"name":"B","rule":"clash"}},{"label":["B","(not C)"],"peer":0,"why":{"axiom":1,"left":1,"right":0,"rule":"axiom"}},{"label":["(not A)","A"],"peer":0,"why":{"name":"A","rule":"clash"}},{"label":["A","(not C)"],"peer":0,"why":{"axiom":0,"left":3,"right":2,"rule":"axiom"}}]},"from":"cache","id":52,"pin":[1],"verdict":"yes"}
 # A value of no form is refused.
 > null
 < {"code":2,"error":"bad_shape","id":53}
@@ -177,13 +178,13 @@ const REFUSED: &str = r#"
 < {"code":2,"error":"bad_shape","id":84}
 # The last of equal members counts.
 > {"op":"versions","left":"C","op":"ask","peer":"b","right":7,"peer":"a","left":"\u0041","right":"C"}
-< {"id":85,"pin":[1],"verdict":"yes"}
+< {"cert":{"format":1,"kind":"yes","lines":[{"label":["C","(not C)"],"peer":0,"why":{"name":"C","rule":"clash"}},{"label":["B","(not B)"],"peer":0,"why":{"name":"B","rule":"clash"}},{"label":["B","(not C)"],"peer":0,"why":{"axiom":1,"left":1,"right":0,"rule":"axiom"}},{"label":["(not A)","A"],"peer":0,"why":{"name":"A","rule":"clash"}},{"label":["A","(not C)"],"peer":0,"why":{"axiom":0,"left":3,"right":2,"rule":"axiom"}}]},"from":"cache","id":85,"pin":[1],"verdict":"yes"}
 > {"op":"ask","peer":"a","left":"A","right":"C","left":"C","right":"A"}
-< {"id":86,"pin":[1],"verdict":"no"}
+< {"cert":{"format":1,"kind":"no","links":[],"locals":[{"names":[["C",0]],"roles":[],"size":1}]},"from":"search","id":86,"pin":[1],"verdict":"no"}
 > {"op":"check","peer":"a","left":"A","right":"D","pin":[9],"cert":{"kind":"yes"},"pin":[0],"cert":{"kind":"yes","kind":"no","format":1,"links":7,"links":[],"locals":[{"names":[["A",0]],"roles":[],"size":0,"size":1}]}}
 < {"check":"valid","id":87}
 > {"op":"ask","peer":"a","left":"A","right":"C"}
-< {"id":88,"pin":[1],"verdict":"yes"}
+< {"cert":{"format":1,"kind":"yes","lines":[{"label":["C","(not C)"],"peer":0,"why":{"name":"C","rule":"clash"}},{"label":["B","(not B)"],"peer":0,"why":{"name":"B","rule":"clash"}},{"label":["B","(not C)"],"peer":0,"why":{"axiom":1,"left":1,"right":0,"rule":"axiom"}},{"label":["(not A)","A"],"peer":0,"why":{"name":"A","rule":"clash"}},{"label":["A","(not C)"],"peer":0,"why":{"axiom":0,"left":3,"right":2,"rule":"axiom"}}]},"from":"cache","id":88,"pin":[1],"verdict":"yes"}
 # An ask is refused by its texts, then by their sizes, then by its budget.
 > {"op":"ask","peer":"a","left":"(not A","right":"(","expansions":0}
 < {"code":3,"error":"bad_concept","id":89,"n":0}
@@ -193,10 +194,10 @@ const REFUSED: &str = r#"
 < {"code":11,"error":"concept_limit","id":91,"n":1}
 > {"op":"ask","peer":"a","left":"A","right":"C","expansions":0}
 < {"code":14,"error":"bad_budget","id":92}
-> {"op":"ask","peer":"a","left":"A","right":"C","expansions":1}
-< {"count":1,"id":93,"peer":0,"pin":[1],"spent":"run","verdict":"spent"}
-> {"op":"ask","peer":"a","left":"A","right":"C","expansions":200000}
-< {"id":94,"pin":[1],"verdict":"yes"}
+> {"op":"ask","peer":"a","left":"A","right":"(all r C)","expansions":1}
+< {"count":1,"from":"search","id":93,"peer":0,"pin":[1],"spent":"run","verdict":"spent"}
+> {"op":"ask","peer":"a","left":"A","right":"(all r C)","expansions":200000}
+< {"cert":{"format":1,"kind":"no","links":[],"locals":[{"names":[["B",0],["C",0],["A",0]],"roles":[["r",0,1]],"size":2}]},"from":"search","id":94,"pin":[1],"verdict":"no"}
 > {"op":"ask","peer":"a","left":"A","right":"C","expansions":200001}
 < {"code":14,"error":"bad_budget","id":95}
 > {"op":"ask","peer":"a","left":"A","right":"C","expansions":9223372036854775808}
@@ -204,7 +205,7 @@ const REFUSED: &str = r#"
 > {"op":"ask","peer":"a","left":"A","right":"C","expansions":18446744073709551615}
 < {"code":14,"error":"bad_budget","id":97}
 > {"op":"ask","peer":"a","left":"A","right":"C"}
-< {"id":98,"pin":[1],"verdict":"yes"}
+< {"cert":{"format":1,"kind":"yes","lines":[{"label":["C","(not C)"],"peer":0,"why":{"name":"C","rule":"clash"}},{"label":["B","(not B)"],"peer":0,"why":{"name":"B","rule":"clash"}},{"label":["B","(not C)"],"peer":0,"why":{"axiom":1,"left":1,"right":0,"rule":"axiom"}},{"label":["(not A)","A"],"peer":0,"why":{"name":"A","rule":"clash"}},{"label":["A","(not C)"],"peer":0,"why":{"axiom":0,"left":3,"right":2,"rule":"axiom"}}]},"from":"cache","id":98,"pin":[1],"verdict":"yes"}
 "#;
 
 #[test]

@@ -22,9 +22,9 @@ impl From<AllocError> for Failure {
 /// Whether sessions go as their transcripts say, each to the status 0.
 ///
 /// A line that begins with `> ` is a line of the input, and one that begins with `< ` is the reply that is wanted. A
-/// line `---` ends a session, and others are remarks. In a line of the input `~N*TEXT~` stands for N copies of TEXT,
-/// in which `#` stands, at most once, for the number of the copy, from 0; `^N*TEXT^` does the same, also within such
-/// a text.
+/// line `---` ends a session, and others are remarks. In a line of the input or of the replies `~N*TEXT~` stands for N
+/// copies of TEXT, in which `#` stands, at most once, for the number of the copy, from 0; `^N*TEXT^` does the same,
+/// also within such a text.
 pub fn follows(alloc: Global, transcripts: &str) -> Result<(), Failure> {
     let mut input = String::new(alloc);
     let mut wanted = String::new(alloc);
@@ -56,11 +56,10 @@ fn add_line(
     wanted: &mut String,
 ) -> Result<(), AllocError> {
     if let Some(text) = line.strip_prefix("> ") {
-        return add_request(alloc, input, text);
+        return add_whole(alloc, input, text);
     }
     if let Some(text) = line.strip_prefix("< ") {
-        wanted.push_str(text)?;
-        wanted.push_str("\n")?;
+        return add_whole(alloc, wanted, text);
     }
     Ok(())
 }
@@ -101,11 +100,12 @@ fn first_other_line(told: &[u8], wanted: &[u8]) -> Option<usize> {
     }
 }
 
-fn add_request(alloc: Global, input: &mut String, text: &str) -> Result<(), AllocError> {
+/// Adds a line with all its copies written out.
+fn add_whole(alloc: Global, lines: &mut String, text: &str) -> Result<(), AllocError> {
     let mut inner = String::new(alloc);
     add_with_copies(&mut inner, text, '^')?;
-    add_with_copies(input, inner.as_str(), '~')?;
-    input.push_str("\n")
+    add_with_copies(lines, inner.as_str(), '~')?;
+    lines.push_str("\n")
 }
 
 /// Adds a text with its copies written out, which stand between these marks.

@@ -1,0 +1,4 @@
+pub mod Commands
+pub mod Cut
+pub mod Drilling
+pub mod Giving
