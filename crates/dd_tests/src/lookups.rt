@@ -5,7 +5,7 @@ use dd_concept::{Axiom, Concept, Items, NoMemory};
 use dd_json::Text;
 use dd_peer::{PeerVersion, Rule};
 use dd_text::Symbols;
-use dd_wire::{Names, Request, WireErr, are_peers, read_form, read_request, resolve};
+use dd_wire::{Names, Request, WireErr, are_peers, read_request};
 use std::alloc::Global;
 
 /// A line of a new session, where the peers `Here` and `There` may be declared: its code, and how many names and roles
@@ -49,10 +49,7 @@ fn code_of(
     names: Option<&Names>,
     line: &[u8],
 ) -> (u8, Option<u64>) {
-    match read_form(alloc, line) {
-        Ok(form) => told(resolve(alloc, symbols, names, form)),
-        Err(e) => cause(&e),
-    }
+    told(read_request(alloc, symbols, names, line))
 }
 
 /// 0 for a request, 254 for a put that is not the one of the table, 255 for want of memory, else the code.
@@ -293,7 +290,7 @@ const REPEATED: &[Repeated] = &[
         first: br#"{"op":"peers","#,
         last: br#""names":["top"]}"#,
         times: 1,
-        code: 17,
+        code: 6,
     },
     Repeated {
         first: b"[",

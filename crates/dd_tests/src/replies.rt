@@ -5,8 +5,8 @@ use crate::rows::{Failure, Row, check};
 use dd_concept::NoMemory;
 use dd_wire::{
     BAD_BUDGET, BAD_CONCEPT, BAD_JSON, BAD_PEERS, BAD_PIN, BAD_SHAPE, BadWorld, CLOSURE_FULL,
-    CONCEPT_LIMIT, LINE_TOO_LONG, NO_PEERS, NOT_BUILT, PEERS_TWICE, Reply, SAME_PEER, SYMBOLS_FULL,
-    TOO_MANY_AXIOMS, TOO_MANY_RULES, UNKNOWN_PEER, UNKNOWN_SOURCE, print_reply,
+    CONCEPT_LIMIT, LINE_TOO_LONG, NO_PEERS, PEERS_TWICE, Reply, SAME_PEER, SYMBOLS_FULL,
+    TOO_MANY_AXIOMS, TOO_MANY_RULES, UNKNOWN_PEER, UNKNOWN_SOURCE, VERSIONS_FULL, print_reply,
 };
 use std::alloc::Global;
 
@@ -52,8 +52,8 @@ const CODES: &[Code] = &[
         text: r#"{"code":2,"error":"bad_shape","id":1}"#,
     },
     Code {
-        code: NOT_BUILT,
-        text: r#"{"code":17,"error":"not_built","id":1}"#,
+        code: VERSIONS_FULL,
+        text: r#"{"code":13,"error":"versions_full","id":1}"#,
     },
     Code {
         code: NO_PEERS,
