@@ -1,2 +1,4 @@
 pub mod Tables
 pub mod Versions
+pub mod Paired
+pub mod Outcomes

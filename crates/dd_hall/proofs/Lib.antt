@@ -1,0 +1,5 @@
+pub mod Extending
+pub mod GoingOn
+pub mod Stepping
+pub mod Releasing
+pub mod Kept
