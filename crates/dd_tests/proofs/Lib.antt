@@ -1,5 +1,1 @@
 pub mod Tested
-pub mod Fitted
-pub mod Runnable
-pub mod Answering
-pub mod Opened

@@ -1,4 +1,2 @@
 pub mod Tables
 pub mod Versions
-pub mod Paired
-pub mod Outcomes

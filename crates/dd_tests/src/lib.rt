@@ -1,10 +1,9 @@
 //! Tests of the libraries, by their public calls. They stand in a crate of their own, since a crate with tests is proved twice.
 //!
 //! They show what no session of the program's own tests shows: `concepts`, `interpretations`, `peers` and `worlds` of several
-//! peers; `tasks` with their goals, `runs` over these, and `derivations`; jobs of two `paired` peers, `boards` of their sessions, and what `settling` makes of these; `labels` as sets and in a table, `labels_of_rules` under the rules of a
+//! peers; `tasks` with their goals, and `derivations`; `labels` as sets and in a table, `labels_of_rules` under the rules of a
 //! peer, and `closures` the concepts of one by their numbers; `lines` however they are read; `members` of JSON objects; `symbols`
-//! and `texts` both ways; `lookups` and `replies` of the protocol, and
-//! `readings` of whole lines, with every refusal. `kept_answers` by their keys, requests that are
+//! and `texts` both ways; `lookups` and `replies` of the protocol, with the codes that the program does not answer yet. `kept_answers` by their keys, requests that are
 //! `made`, and `words` as commands. `rows` says what a table
 //! is, and `versions` makes what `peers` and `worlds` are about.
 //!
@@ -13,10 +12,6 @@
 
 #[cfg(test)]
 mod bodies;
-#[cfg(test)]
-mod boards;
-#[cfg(test)]
-mod certificates;
 #[cfg(test)]
 mod closures;
 #[cfg(test)]
@@ -42,22 +37,12 @@ mod made;
 #[cfg(test)]
 mod members;
 #[cfg(test)]
-mod outcomes;
-#[cfg(test)]
-mod paired;
-#[cfg(test)]
 mod peers;
 #[cfg(test)]
 mod pins;
 #[cfg(test)]
-mod readings;
-#[cfg(test)]
 mod replies;
 pub mod rows;
-#[cfg(test)]
-mod runs;
-#[cfg(test)]
-mod settling;
 #[cfg(test)]
 mod symbols;
 #[cfg(test)]

@@ -161,7 +161,7 @@ fn is_goal(alloc: Global, row: &Sought, goal: &Goal) -> Result<bool, NoMemory> {
 }
 
 /// Whether these are the concepts of the texts.
-pub fn are_texts(alloc: Global, found: &[Concept], texts: &[&[u8]]) -> Result<bool, NoMemory> {
+fn are_texts(alloc: Global, found: &[Concept], texts: &[&[u8]]) -> Result<bool, NoMemory> {
     let mut symbols = numbered(alloc)?;
     let wanted = concepts(alloc, &mut symbols, texts);
     drop(symbols);

@@ -19,7 +19,7 @@ use Rattle.std.proofs.lemmas.Bool.{cases_eq}
 use Rattle.dd_board.proofs.Changes.{changed-at, at-changed, with_keys-at}
 use Rattle.dd_work.specs.Settled.{ExtendEach, HasNothingHeld}
 use Rattle.dd_work.specs.Turns.{IsOut, left, left_in}
-use Rattle.dd_hall.proofs.Extending.{extend-event, extend-same}
+use Rattle.dd_work.proofs.Extending.{extend-event, extend-same}
 use Rattle.dd_work.proofs.Lists.{sum-changed, count-end}
 
 -- ---- the tasks of a session after an event that frees one: each is free, or stood there and is another

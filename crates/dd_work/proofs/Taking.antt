@@ -21,7 +21,7 @@ use Rattle.dd_board.specs.Allowed.{MayTake}
 use Rattle.dd_board.proofs.Changes.{changed-at, at-changed, still-at}
 use Rattle.dd_work.specs.Settled.{ExtendEach, HasNothingHeld}
 use Rattle.dd_work.specs.Turns.{IsOut, left, left_in}
-use Rattle.dd_hall.proofs.Extending.{extend-changed}
+use Rattle.dd_work.proofs.Extending.{extend-changed}
 use Rattle.dd_work.proofs.Lists.{read-changed, sum-changed, count-end, any-end, take-all}
 
 -- what a take that gives a ticket does, and one that finds no session going

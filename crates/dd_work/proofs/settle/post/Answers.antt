@@ -1,4 +1,4 @@
-use Rattle.dd_hall.proofs.Extending.{extend-both, extend-same}
+use Rattle.dd_work.proofs.Extending.{extend-both, extend-same}
 use Rattle.dd_work.proofs.Posting.{out-again, post-extends, post-fewer, post-free}
 use Rattle.dd_work.proofs.settle.post.Goals as goal
 

@@ -1,5 +1,4 @@
-use Rattle.dd_hall.proofs.Extending.{extend-both, extend-self}
-use Rattle.dd_work.proofs.Extending.{still-fit}
+use Rattle.dd_work.proofs.Extending.{extend-both, extend-self, still-fit}
 use Rattle.dd_work.proofs.settle.settle.Goals as goal
 
 pub loop-init : goal.loop-init

@@ -1,8 +1,7 @@
 use Rattle.std.proofs.Common.{◌<◌, subst, sym}
 use Rattle.dd_work.specs.Settled.{HasNothingHeld}
 use Rattle.dd_work.specs.Turns.{left}
-use Rattle.dd_hall.proofs.Extending.{extend-both, extend-same}
-use Rattle.dd_work.proofs.Extending.{still-fit}
+use Rattle.dd_work.proofs.Extending.{extend-both, extend-same, still-fit}
 use Rattle.dd_work.proofs.Taking.{drawn-by, settled-by, take-extends, take-left, take-out}
 use Rattle.dd_work.proofs.settle.turn.Goals as goal
 

@@ -1,3 +1,0 @@
-pub mod Extends
-pub mod Shelf
-pub mod Told
